@@ -1,2 +1,3 @@
 pub mod Commits
 pub mod Handing
+pub mod Changing

@@ -17,6 +17,7 @@ use std::alloc::AllocError;
 use std::sync::Wait;
 use thiserror::Error;
 
+pub mod changing;
 #[cfg(test)]
 mod tests;
 

@@ -1,9 +1,12 @@
 -- A change of a row: on the parts that its pass holds, with these parts, and as a call.
-use Rattle.std.proofs.Common.{◌≡◌, ◌⊎◌, ℕ, ℤ, Bool, true, false, not, ◌||◌, ◌&&◌, List, [], ◌∷◌, ◌++◌, Option, None, Some, length, map, refl, sym, ap, subst, ◌∙◌, append-nil, append_assoc, true≢false, arith}
+use Rattle.std.proofs.Common.{◌≡◌, ◌⊎◌, ℕ, ◌≤◌, ℤ, Bool, true, false, cond, not, ◌||◌, ◌&&◌, List, [], ◌∷◌, ◌++◌, Option, None, Some, length, map, refl, sym, ap, subst, ◌∙◌, append-nil, append_assoc, length-append, true≢false, arith}
 use mathlib.Core.Logic.{inl, inr}
 use Rattle.std.specs.Prelude.{fold, option_and_then, option_to_list}
+use Rattle.std.specs.BTreeMap.{insert_entry}
+use Rattle.std.proofs.lemmas.List.{length-map}
 use Rattle.engine_core.specs.Asks.{HasKeyParts, IsOfCore}
 use Rattle.core_laws.proofs.Events.Lists.{in_right}
+use Rattle.core_laws.specs.Following.Laws.{command_of}
 use Rattle.event_spec.specs.declared.event.Event.TheVariants as event
 use Rattle.event_spec.specs.declared.own.OwnTransaction.{OwnTransaction}
 use Rattle.event_spec.specs.declared.reply.Reply.TheVariants as reply
@@ -17,11 +20,12 @@ use Rattle.block_spec.specs.Slots.{Row}
 use Rattle.hall_rule.specs.Hands.{Agrees, Covers}
 use Rattle.hall_rule.specs.declared.view.Entry.{Entry}
 use Rattle.hall_steps.specs.Hall.{first_of}
-use Rattle.isolation_spec.specs.Contents.{key_of, place_at, place_of}
+use Rattle.isolation_spec.specs.Contents.{key_of, place_at, place_cmp, place_of}
+use Rattle.isolation_spec.specs.declared.command.Act.TheVariants as act
 use Rattle.isolation_spec.specs.declared.place.Place.{Place}
 use Rattle.store_laws.proofs.Going.{keys}
 use Rattle.store_laws.specs.OwnLaws.{HasOpened}
-use Rattle.run_spec.specs.Asked.{events_of, imaged_block, thaws}
+use Rattle.run_spec.specs.Asked.{events_of, imaged_block, parts_before, thaws}
 use Rattle.run_spec.specs.Calls.{Call, IsCallBy, IsPart, IsWhole, is_final, is_memory}
 use Rattle.run_spec.specs.Handed.{GoesOn, own_in}
 use Rattle.run_spec.specs.Occurrences.{Logged, Occurrence, events_in, replies_in}
@@ -29,18 +33,22 @@ use Rattle.run_spec.specs.Opened.{own_behind, own_key}
 use Rattle.run_spec.specs.Told.{refusal_of, told_by}
 use Rattle.store_laws.proofs.Calling.{goes_far, made_on}
 use Rattle.store_laws.proofs.Entries.{replay_same}
+use Rattle.store_laws.proofs.Machines.{quiet_on}
 use Rattle.store_laws.proofs.Making.{refused_keeps}
+use Rattle.store_laws.proofs.Stepping.{open_on}
 use Rattle.store_laws.specs.Logs.{log_of, made_in}
+use Rattle.store_laws.specs.Machines.{HasOpenIn, machine_after}
 use Rattle.store_laws.specs.Own.{entry_of, occurrence_at, parts_after}
 use Rattle.workload_spec.specs.declared.command.Command.{Command}
 use Rattle.workload_spec.specs.declared.command.Command.TheVariants as command
 use Rattle.workload_spec.specs.declared.reply.Said.{Said}
 use Rattle.workload_spec.specs.declared.reply.Said.TheVariants as said
-use Rattle.shared_store.specs.Changing.{Changes, ChangesHeld, IsChangeBy, IsChangeOf}
+use Rattle.shared_store.specs.Changing.{Changes, ChangesHeld, HasMade, IsChangeBy, IsChangeOf, IsChangeTo}
 use Rattle.shared_store.specs.Making.{Gives, IsFew, MakesHeld, MayMakeHeld, Takes, parts_seen}
 use Rattle.shared_store.specs.Store.{Answers, EndsWithLast, HandsView, IsAt, IsSession, IsWithin, SeatView, StoreView, TookPartsOf, own_of, seen, shape_in, taken_by}
-use Rattle.shared_store.specs.Writing.{IsWriteReply}
+use Rattle.shared_store.specs.Writing.{IsWriteReply, is_written}
 use Rattle.shared_store.specs.declared.session.Session.{Session}
+use Rattle.shared_store.proofs.Along.{change_along, nothing_along}
 use Rattle.shared_store.proofs.Calls.{own_stands}
 use Rattle.shared_store.proofs.Hands.{agrees_with}
 use Rattle.shared_store.proofs.Made.{memory_is, one_hand, took_further}
@@ -173,6 +181,9 @@ module _ (store : StoreView) (session : ℕ) (own : Option OwnTransaction) (plac
         own = m.makes.own;
         count = m.count;
         ends = (m.makes.before, m.makes.log);
+        writes = λ change' is commits wrote has.
+            change_along store session t u later (own_behind own write told) write told m.within m.makes commits wrote has place change' is
+            (told_as_write (parts_after sh m.makes.before) told m.makes.reply);
       };
       taken = m.taken;
     }
@@ -204,6 +215,7 @@ module _ (store : StoreView) (session : ℕ) (own : Option OwnTransaction) (plac
             own = n.makes.own;
             count = n.count;
             ends = (n.makes.before, n.makes.log);
+            writes = λ change' asks commits wrote has. nothing_along store session t u later own thaw thaw_told n.within n.makes commits wrote has refl;
           };
           taken = n.taken;
         }
@@ -232,6 +244,10 @@ module _ (store : StoreView) (session : ℕ) (own : Option OwnTransaction) (plac
                     ∙ append_assoc (own_in sh session (log_of t.me.0.log)) (thawing ∷ []) (writing ∷ []);
                 count = let one = n.count in let two = m.count in omega (arith, one, two);
                 ends = (m.makes.before, m.makes.log);
+                writes = λ change' asks commits wrote has.
+                    change_along store session u w last (own_behind own write told) write told m.within m.makes commits wrote
+                    (nothing_along store session t u later own thaw thaw_told n.within n.makes commits wrote has refl) place change' asks
+                    (told_as_write (parts_after sh m.makes.before) told m.makes.reply);
               };
               taken = m.taken ∙ n.taken;
             }
@@ -273,12 +289,33 @@ changed_whole store session s t u w hands later ended own place write told takes
             let c = ap (λ (es : List (Entry CoreEvent)). length es) takes.mine in
             omega (arith, a, b, c);
         ends = subst (λ (l : List (Entry CoreEvent)). EndsWithLast made (log_of l)) (sym gives.log) held.change.ends;
+        writes = λ change' is commits wrote has.
+            subst (λ (l : List (Entry CoreEvent)). HasOpenIn session (machine_after shape (log_of l)) commits (cond (is_written told) (insert_entry place_cmp wrote place change') wrote)) (sym gives.log)
+            (held.change.writes change' is commits wrote
+            (open_on session (machine_after shape (log_of s.me.0.log)) (machine_after shape (log_of t.me.0.log)) commits wrote has
+            (quiet_on shape session (log_of s.me.0.log) (log_of t.me.0.log) [] takes.sees.goes_on (takes.sees.same ∙ sym (append-nil (own_in shape session (log_of s.me.0.log)))) tt takes.within.knows.under)));
       };
       took = subst (λ (later : List ℕ). TookPartsOf shape events (log_of s.me.0.log) (log_of w.me.0.log) s.me.0.taken later) (sym (gives.taken ∙ held.taken))
           (subst (λ (l : List (Entry CoreEvent)). TookPartsOf shape events (log_of s.me.0.log) (log_of l) s.me.0.taken t.me.0.taken) (sym gives.log)
           (took_wider shape (thaws shape place.table place.key made) (write ∷ []) (log_of s.me.0.log) (log_of u.me.0.log) s.me.0.taken t.me.0.taken
           (took_further shape (write ∷ []) (log_of s.me.0.log) (log_of t.me.0.log) (log_of u.me.0.log) s.me.0.taken t.me.0.taken takes.took held.change.goes_on)));
     }
+
+-- a change is made by two events at most
+pub change_few : (sh : Shape) (place : Place) (write : CoreEvent) (made : List Occurrence) (told : CoreReply) → HasMade sh place write made told → length made ≤ 2
+change_few sh place write made told has = go (option_and_then (imaged_block sh place.table place.key) (parts_before made)) has.events
+  where
+    go : (block : Option ℕ) → map (event.Thaw place.table) (option_to_list block) ++ write ∷ [] ≡ events_in made ++ has.missed → length made ≤ 2
+    go None e =
+        let same = ap (λ (es : List CoreEvent). length es) e in
+        let both = length-append (events_in made) has.missed in
+        let many : length (events_in made) ≡ length made = length-map made (λ (o : Occurrence). o.event) in
+        omega (arith, same, both, many)
+    go (Some b) e =
+        let same = ap (λ (es : List CoreEvent). length es) e in
+        let both = length-append (events_in made) has.missed in
+        let many : length (events_in made) ≡ length made = length-map made (λ (o : Occurrence). o.event) in
+        omega (arith, same, both, many)
 
 -- ---- the call
 
@@ -378,6 +415,13 @@ module _ (store : StoreView) (s : Session) (own : OwnTransaction) (is : IsSessio
     takes = refl;
     behind = λ told. refl;
   }
+
+  -- to the machine an update is a change to its row, and a delete to none
+  pub update_to : (table : ℕ) (row : Row) → IsChangeTo s.session (place_of table row) (Some row) (event.Update (own_key table (key_of row) own) table row)
+  update_to table row = record { asks = ap (λ q. Some (command_of q (act.Update table row))) (own_stands store s own is some').0; there = refl }
+
+  pub delete_to : (table : ℕ) (key : ℤ) → IsChangeTo s.session (place_at table key) None (event.Delete (own_key table key own) table key)
+  delete_to table key = record { asks = ap (λ q. Some (command_of q (act.Delete table key))) (own_stands store s own is some').0; there = tt }
 
   -- the command to update is this change, with its events and its line
   pub update_by : (table : ℕ) (row : Row)

@@ -4,6 +4,7 @@ pub mod BlockReads
 pub mod Calls
 pub mod Changed
 pub mod Compacted
+pub mod Counted
 pub mod Freezes
 pub mod Full
 pub mod Hands
@@ -24,3 +25,5 @@ pub mod Swept
 pub mod Thaws
 pub mod Wrote
 pub mod Open
+pub mod Along
+pub mod Stays

@@ -66,10 +66,12 @@ module _ (store : StoreView) (q : ℕ) (earlier later : List Logged) (e : CoreEv
 
 -- ---- a session
 
-measures_of : (store : StoreView) (s : Session) → IsSession store s → IsShape (shape_in store)
+-- the store's measures are sound
+pub measures_of : (store : StoreView) (s : Session) → IsSession store s → IsShape (shape_in store)
 measures_of store s is = is.stands.within.pass.of.1.sound.measures
 
-under_of : (store : StoreView) (q : ℕ) (s : Session) → IsSession store s → s.session ≡ q → StandsUnder q (seen s)
+-- a session's own events stand under it
+pub under_of : (store : StoreView) (q : ℕ) (s : Session) → IsSession store s → s.session ≡ q → StandsUnder q (seen s)
 under_of store q s is same = subst (λ r. StandsUnder r (seen s)) same is.stands.within.knows.under
 
 -- A session that made one event.

@@ -29,10 +29,11 @@ use Rattle.shared_store.specs.Reading.{ReadsBlock, Went, reply_of, rows_in}
 use Rattle.shared_store.specs.declared.reading.BlockRows.{BlockRows}
 use Rattle.shared_store.specs.declared.reading.BlockRows.TheVariants as block
 use Rattle.shared_store.specs.Told.{scanned_told}
-use Rattle.shared_store.specs.Scanning.{ArePlain, Scans, laid}
+use Rattle.shared_store.specs.Scanning.{ArePlain, ReadsOnce, Scans, laid, scan_cost}
 use Rattle.shared_store.specs.Store.{Answers, IsSession, IsTouched, StoreView, TookPartsOf, own_of, seen, shape_in, taken_by, events_made}
 use Rattle.shared_store.specs.declared.session.Session.{Session}
 use Rattle.shared_store.proofs.Calls.{took_none}
+use Rattle.shared_store.proofs.Counted.{le_more, scanned_more}
 use Rattle.shared_store.proofs.Laid.{laid_all}
 
 -- ---- parts that were taken
@@ -371,3 +372,53 @@ ok_if (Err e) p = tt
 pub ok_with : {T E P Q : Type 0} (r : Result T E) → OnOk r P → (P → Q) → OnOk r Q
 ok_with (Ok v) p f = f p
 ok_with (Err e) p f = tt
+
+-- ---- steps
+
+-- So many blocks of the table were read, and their rows were laid, by no more steps than that costs.
+pub record ScansBy
+    (store : StoreView) (old new : Session) (own : OwnTransaction) (table count : ℕ) (state : State) (spent steps : ℕ)
+    : Type 0 where
+  pub scans : Scans store old new own table count state
+  pub few : steps ≤ spent + scan_cost (shape_in store) table (replies_in scans.made)
+
+module _ (store : StoreView) (own : OwnTransaction) (t : ℕ) where
+  -- before the first block no step was taken
+  pub steps_begin : (s : Session) (spent : ℕ) → IsSession store s → ScansBy store s s own t 0 [] spent spent
+  unfolding scan_begins
+  steps_begin s spent is = record {
+    scans = scan_begins store own t s is;
+    few = le_more spent (scan_cost (shape_in store) t []);
+  }
+
+  module _ (old mid new : Session) (k : ℕ) (state : State) (told : CoreReply) (spent steps later : ℕ)
+      (s : ScansBy store old mid own t k state spent steps) (r : ReadsBlock store mid new own t k told) (lt : k < blocks_of (shape_in store) t)
+      (few : later ≤ steps + scan_cost (shape_in store) t (told ∷ [])) where
+    -- The reads with the next one.
+    abbrev further : List Occurrence
+    further = s.scans.made ++ read_at store old mid new own t k told r ∷ []
+
+    few_further : later ≤ spent + scan_cost (shape_in store) t (replies_in further)
+    few_further = subst (λ (replies : List CoreReply). later ≤ spent + scan_cost (shape_in store) t replies)
+        (sym (map-append (λ (o : Occurrence). o.reply) s.scans.made (read_at store old mid new own t k told r ∷ [])))
+        (scanned_more (shape_in store) t (replies_in s.scans.made) told spent steps later s.few few)
+
+    -- one block more was read, and its rows were laid
+    pub steps_go_on : (now : State) → is_memory told ≡ false → now ≡ laid t state (rows_told told) → ScansBy store old new own t (k + 1) now spent later
+    unfolding scan_goes_on
+    steps_go_on now granted rows = record {
+      scans = scan_goes_on store own t old mid new k state now told s.scans r lt granted rows;
+      few = few_further;
+    }
+
+    -- one block more was read, and there was no memory for it or for its rows
+    pub steps_break : ReadsOnce store old new t spent later
+    steps_break = record {
+      made = further;
+      own = (went_on store old mid new own t k told (asked store own t) s.scans.made s.scans.went r (is_asked store own t k lt)).own;
+      few = few_further;
+    }
+
+  -- behind the last block
+  pub steps_end : (old new : Session) (k : ℕ) (state : State) (spent steps : ℕ) → ScansBy store old new own t k state spent steps → ReadsOnce store old new t spent steps
+  steps_end old new k state spent steps s = record { made = s.scans.made; own = s.scans.went.own; few = s.few }

@@ -51,6 +51,28 @@ writes_reply told judged (inl is) = subst IsWriteReply (sym is) tt
 writes_reply told (Ok slot) (inr is) = subst IsWriteReply (sym is) tt
 writes_reply told (Err fault) (inr is) = subst IsWriteReply (sym is) tt
 
+-- a reply of which no slot was written settles nothing
+pub settled_else : (writes : PlaceMap ℕ) (place : Place) (told : CoreReply) → ((slot : ℕ) → told ≡ reply.Written slot → ⊥) → settled writes place told ≡ writes
+settled_else writes place (reply.Written slot) other = absurd (other slot refl)
+settled_else writes place (reply.Begun begun) other = refl
+settled_else writes place (reply.Found row) other = refl
+settled_else writes place (reply.Refused fault) other = refl
+settled_else writes place (reply.Rows rows) other = refl
+settled_else writes place (reply.Shared rows) other = refl
+settled_else writes place (reply.Committed number) other = refl
+settled_else writes place reply.Aborted other = refl
+settled_else writes place (reply.Oldest stamp) other = refl
+settled_else writes place (reply.Turned turned) other = refl
+settled_else writes place (reply.Dropped count) other = refl
+settled_else writes place (reply.Looked look) other = refl
+settled_else writes place (reply.Moved count) other = refl
+settled_else writes place (reply.Sealed stamp) other = refl
+settled_else writes place (reply.NotSealed fault) other = refl
+settled_else writes place (reply.Imaged rows) other = refl
+settled_else writes place reply.NoSeal other = refl
+settled_else writes place reply.Thawed other = refl
+settled_else writes place reply.Memory other = refl
+
 -- A write settled among those kept is what the reply makes of the open transaction.
 own_settled : (session : ℕ) (writes : PlaceMap ℕ) (snapshot : Snapshot) (place : Place) (told : CoreReply)
     → opened_at session (settled writes place told) snapshot ≡ with_own place told (opened_at session writes snapshot)

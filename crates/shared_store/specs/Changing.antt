@@ -1,8 +1,12 @@
 -- What changing a row asks of a session's pass, and what it tells: where the row's block is imaged
 -- it is thawed before the change, on the same parts.
 use Rattle.std.specs.Prelude.{◌≡◌, ℕ, ◌+◌, ◌<◌, ◌^◌, true, false, List, [], ◌∷◌, ◌++◌, Option, None}
-use Rattle.std.specs.Prelude.{Some, option_map, length}
+use Rattle.std.specs.Prelude.{IfSome, Some, if◌then◌else◌, option_map, length}
+use Rattle.std.specs.BTreeMap.{insert_entry}
 use Rattle.std.specs.List.{last_or, list_any}
+use Rattle.block_spec.specs.Slots.{Row}
+use Rattle.core_laws.specs.Events.Laws.{command_in}
+use Rattle.core_laws.specs.Following.Laws.{command_of}
 use Rattle.event_spec.specs.declared.event.Event.TheVariants as event
 use Rattle.event_spec.specs.declared.own.OwnKey.{OwnKey}
 use Rattle.event_spec.specs.declared.own.OwnTransaction.{OwnTransaction}
@@ -14,20 +18,24 @@ use Rattle.event_spec.specs.Touched.{touched, touching}
 use Rattle.hall_rule.specs.Hands.{Covers}
 use Rattle.hall_rule.specs.declared.view.View.{View}
 use Rattle.hall_steps.specs.Hall.{first_of}
+use Rattle.isolation_spec.specs.Contents.{History, WriteSet, place_cmp, place_of}
+use Rattle.isolation_spec.specs.declared.command.Act.TheVariants as act
+use Rattle.isolation_spec.specs.declared.command.Command.{Command as Asked}
 use Rattle.isolation_spec.specs.declared.place.Place.{Place}
 use Rattle.store_laws.specs.OwnLaws.{HasOpened}
 use Rattle.run_spec.specs.Asked.{events_of, thaws}
 use Rattle.run_spec.specs.Calls.{is_cut_short, is_memory, is_refused, may_lack_memory}
 use Rattle.run_spec.specs.Handed.{GoesOn, own_in}
-use Rattle.run_spec.specs.Occurrences.{Occurrence, events_in, replies_in}
+use Rattle.run_spec.specs.Occurrences.{Logged, Occurrence, events_in, replies_in}
 use Rattle.run_spec.specs.Opened.{own_behind, with_own}
 use Rattle.run_spec.specs.Told.{last_told, line_of, refusal_of}
 use Rattle.store_laws.specs.Laws.{IsOfSession}
 use Rattle.store_laws.specs.Logs.{log_of}
+use Rattle.store_laws.specs.Machines.{HasOpenIn, machine_after}
 use Rattle.workload_spec.specs.declared.command.Command.{Command}
 use Rattle.shared_store.specs.Store.{EndsWithLast, HandsView, IsAt, IsWithin, SeatView, StoreView}
 use Rattle.shared_store.specs.Store.{TookPartsOf, shape_in}
-use Rattle.shared_store.specs.Writing.{IsWriteReply}
+use Rattle.shared_store.specs.Writing.{IsWriteReply, is_written}
 
 -- ---- what is asked
 
@@ -86,6 +94,26 @@ pub record HasMade
   pub granted : is_memory told ≡ false → (missed ≡ []) × (list_any is_refused made ≡ false)
   pub last : last_or None (replies_in made) ≡ Some told
 
+-- What an update or a delete of a place's row asks of the machine.
+abbrev pub change_asked : ℕ → Place → Option Row → Asked
+change_asked session place (Some row) = command_of session (act.Update place.table row)
+change_asked session place None = command_of session (act.Delete place.table place.key)
+
+-- To the machine the event is this change of the row of a place, where a new row belongs.
+pub record IsChangeTo (session : ℕ) (place : Place) (change : Option Row) (write : CoreEvent)
+    : Type 0 where
+  pub asks : command_in write ≡ Some (change_asked session place change)
+  pub there : IfSome change (λ row. place_of place.table row ≡ place)
+
+-- From one log of a session to another its transaction has the same open, with this change its own
+-- where it was accepted.
+abbrev pub WritesAlong
+    : Shape → ℕ → List Logged → List Logged → Place → Option Row → CoreReply → Type 0
+WritesAlong shape session old new place change told = (commits : History) (own : WriteSet)
+    → HasOpenIn session (machine_after shape old) commits own
+    → HasOpenIn session (machine_after shape new) commits
+    (if is_written told then insert_entry place_cmp own place change else own)
+
 -- A session's view behind a change: it has the change's events more.
 pub record MakesChange
     (shape : Shape) (session : ℕ) (place : Place) (write : CoreEvent) (told : CoreReply)
@@ -98,6 +126,8 @@ pub record MakesChange
   pub own : own_in shape session (log_of new.log) ≡ own_in shape session (log_of old.log) ++ made
   pub count : length new.mine ≡ length old.mine + length made
   pub ends : EndsWithLast made (log_of new.log)
+  pub writes : (change : Option Row) → IsChangeTo session place change write
+      → WritesAlong shape session (log_of old.log) (log_of new.log) place change told
 
 -- The session made the change on parts that it held.
 pub record ChangesHeld

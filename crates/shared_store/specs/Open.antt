@@ -1,10 +1,11 @@
 -- What a session has open, to one who embeds the store: the commits that its transaction sees, and
 -- what it wrote itself.
-use Rattle.std.specs.Prelude.{◌≡◌, ℕ, ℤ, true, [], Option, None, Some, Result, Ok, Err, IfOk}
+use Rattle.std.specs.Prelude.{◌≡◌, ℕ, ℤ, true, List, [], Option, None, Some, Result, Ok, Err, IfOk}
 use Rattle.std.specs.Prelude.{is_some, length}
 use Rattle.std.specs.BTreeMap.{insert_entry}
 use Rattle.block_spec.specs.Slots.{Row}
-use Rattle.isolation_spec.specs.Contents.{History, WriteSet, at_place, place_at, place_cmp}
+use Rattle.isolation_spec.specs.Contents.{History, WriteSet, at_place, contents_of, place_at}
+use Rattle.isolation_spec.specs.Contents.{place_cmp}
 use Rattle.isolation_spec.specs.declared.place.Place.{Place}
 use Rattle.isolation_spec.specs.Machine.{IsolationMachine}
 use Rattle.store_laws.specs.Machines.{AddsCommit, HasMore, HasOpenIn, commits_in, machine_after}
@@ -35,6 +36,13 @@ abbrev pub StaysOpen : StoreView → Session → Session → Type 0
 StaysOpen store old new = (commits : History) (own : WriteSet)
     → IsOpen store old commits own → IsOpen store new commits own
 
+-- Whatever is open stays so, where nothing is open nothing is, and of the commits that were seen none
+-- is lost.
+pub record LeavesOpen (store : StoreView) (old new : Session) : Type 0 where
+  pub is_open : StaysOpen store old new
+  pub rests : IsAtRest old → IsAtRest new
+  pub commits : HasMore (commits_seen store old) (commits_seen store new)
+
 -- A transaction was opened that sees all commits which its session has seen by then. It tells how
 -- many they are.
 pub record Opens (store : StoreView) (old new : Session) (number : ℕ) : Type 0 where
@@ -64,6 +72,20 @@ abbrev pub FindsRow
     : {E : Type 0} → StoreView → Session → Session → ℕ → ℤ → Result (Option Row) E → Type 0
 FindsRow store old new table key found = (commits : History) (own : WriteSet)
     → IsOpen store old commits own → Finds store new commits own (place_at table key) found
+
+-- The rows of a table were found, as the transaction sees them, in the order of their keys, and what
+-- is open stays so.
+pub record FindsAll
+    {E : Type 0} (store : StoreView) (new : Session) (commits : History) (own : WriteSet)
+    (table : ℕ) (found : Result (List Row) E)
+    : Type 0 where
+  pub is_open : IsOpen store new commits own
+  pub rows : IfOk found (λ rows. rows ≡ contents_of table (rows_seen commits own))
+
+abbrev pub FindsRows
+    : {E : Type 0} → StoreView → Session → Session → ℕ → Result (List Row) E → Type 0
+FindsRows store old new table found = (commits : History) (own : WriteSet)
+    → IsOpen store old commits own → FindsAll store new commits own table found
 
 -- A write that was accepted is the transaction's own from then on; a refused one changes nothing.
 abbrev pub WritesRow

@@ -1,18 +1,20 @@
--- What a scan's reads tell, block after block, and the rows by their places.
-use Rattle.std.specs.Prelude.{◌≡◌, ⊤, ℕ, false, List, [], ◌∷◌, fold, flat_map, map, OnOk, Result}
+-- What a scan's reads tell, block after block, the rows by their places, and the steps.
+use Rattle.std.specs.Prelude.{◌≡◌, ⊤, ℕ, ◌+◌, ◌*◌, ◌≤◌, false, not, List, [], ◌∷◌, ◌++◌, count_by}
+use Rattle.std.specs.Prelude.{fold, flat_map, length, map, OnOk, Result}
 use Rattle.std.specs.BTreeMap.{insert_entry}
 use Rattle.block_spec.specs.Slots.{Row}
 use Rattle.event_spec.specs.declared.event.Event.TheVariants as event
 use Rattle.event_spec.specs.declared.own.OwnTransaction.{OwnTransaction}
-use Rattle.event_spec.specs.Parts.{below}
+use Rattle.event_spec.specs.Parts.{Shape, below, slots_of}
 use Rattle.event_spec.specs.Replies.{CoreReply}
 use Rattle.isolation_spec.specs.Contents.{State, place_cmp, place_of}
 use Rattle.run_spec.specs.Asked.{at_blocks}
 use Rattle.run_spec.specs.Calls.{is_final, is_memory, is_refused}
+use Rattle.run_spec.specs.Handed.{own_in}
 use Rattle.run_spec.specs.Occurrences.{Occurrence, events_in, replies_in}
-use Rattle.run_spec.specs.Told.{rows_told}
+use Rattle.run_spec.specs.Told.{is_shared, rows_told}
 use Rattle.shared_store.specs.Reading.{ReadsBlock, Went}
-use Rattle.shared_store.specs.Store.{StoreView, shape_in}
+use Rattle.shared_store.specs.Store.{StoreView, seen, shape_in}
 use Rattle.shared_store.specs.declared.session.Session.{Session}
 
 -- rows of a table, each laid in the place of its key
@@ -20,15 +22,23 @@ abbrev pub laid : ℕ → State → List Row → State
 laid table state rows = fold (λ state row. insert_entry place_cmp state (place_of table row) row)
     state rows
 
+-- How many steps the reads of a scan may take that were told this: of a block that was not frozen
+-- each slot is looked at once, and of any block each row that was told is made once.
+abbrev pub scan_cost : Shape → ℕ → List CoreReply → ℕ
+scan_cost shape table replies =
+    slots_of shape table * count_by (λ told. not (is_shared told)) replies
+    + length (flat_map rows_told replies)
+
 -- A block was read, and with Ok its rows were laid.
 pub record ReadsInto
     {T E : Type 0} (store : StoreView) (old new : Session) (own : OwnTransaction) (table at : ℕ)
-    (before now : State) (result : Result T E)
+    (before now : State) (spent steps : ℕ) (result : Result T E)
     : Type 0 where
   pub told : CoreReply
   pub reads : ReadsBlock store old new own table at told
   pub granted : OnOk result (is_memory told ≡ false)
   pub laid : OnOk result (now ≡ laid table before (rows_told told))
+  pub few : steps ≤ spent + scan_cost (shape_in store) table (told ∷ [])
 
 -- none was refused memory, and none is one that ends a call
 abbrev pub ArePlain : List Occurrence → Type 0
@@ -45,3 +55,10 @@ pub record Scans
   pub events : events_in made ≡ map (event.Read own table) (below count)
   pub plain : ArePlain made
   pub rows : state ≡ laid table [] (flat_map rows_told (replies_in made))
+
+-- What the session's events since were told bounds the steps since.
+pub record ReadsOnce (store : StoreView) (old new : Session) (table spent steps : ℕ) : Type 0 where
+  pub made : List Occurrence
+  pub own : own_in (shape_in store) old.session (seen new)
+      ≡ own_in (shape_in store) old.session (seen old) ++ made
+  pub few : steps ≤ spent + scan_cost (shape_in store) table (replies_in made)

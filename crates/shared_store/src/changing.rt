@@ -1,29 +1,35 @@
 //! Changing rows: where the block of a row is imaged, it is thawed before.
-ghost use Rattle.std.specs.Prelude.{◌≡◌, ◌<◌, true, is_some, length};
+ghost use Rattle.std.specs.Prelude.{◌≡◌, ◌<◌, IfOk, None, OnErr, Option, Some, true, is_some, length};
+ghost use Rattle.block_spec.specs.Slots.{Row as RowView};
 ghost use Rattle.engine_core.specs.Asks.{HasKeyParts, IsOfCore};
 ghost use Rattle.event_spec.specs.Parts.{Parts};
 ghost use Rattle.hall_rule.specs.Hands.{Agrees};
 ghost use Rattle.hall_steps.specs.Hall.{first_of};
-ghost use Rattle.isolation_spec.specs.Contents.{at_place};
+ghost use Rattle.isolation_spec.specs.Contents.{at_place, place_at, place_of};
 ghost use Rattle.run_spec.specs.Asked.{imaged_block};
 ghost use Rattle.workload_spec.specs.Valid.{fits_table};
 ghost use Rattle.workload_spec.specs.declared.command.Command.{Command};
 ghost use Rattle.workload_spec.specs.declared.command.Command.TheVariants as command;
 ghost use Rattle.shared_store.specs.Changing.{ChangesAny, ChangesAnyHeld, IsChangeBy, IsChangeOf};
-ghost use Rattle.shared_store.specs.Changing.{MayChange, MayChangeHeld};
-ghost use Rattle.shared_store.specs.Store.{Answers, HasRoomFor, IsSession, own_of, shape_in};
+ghost use Rattle.shared_store.specs.Changing.{IsChangeTo, MayChange, MayChangeHeld};
+ghost use Rattle.shared_store.specs.Open.{WritesRow};
+ghost use Rattle.shared_store.specs.Store.{Answers, HasRoomFor, IsSession, MakesAtMost, own_of};
+ghost use Rattle.shared_store.specs.Store.{shape_in};
 ghost use Rattle.shared_store.specs.Told.{written_told};
+ghost use Rattle.shared_store.specs.Writing.{settled};
 
 use crate::faults::StoreFault;
 use crate::session::Session;
 use crate::store::Store;
+use crate::writes::{Writes, answer_of, make_room, settle};
 use cell_model::Row;
 use core_parts::KeyedEvent;
 use engine_core::{Core, CoreReply, imaged};
 use event_spec::{Event, Reply};
 use hall_steps::Pass;
 use isolation_spec::Place;
-use std::sync::Wait;
+use std::alloc::AllocError;
+use std::sync::{Arc, Wait};
 
 impl Store {
     /// The imaged block that a change of a row would change, as the parts that a pass holds tell.
@@ -76,6 +82,32 @@ impl Store {
         told
     }
 
+    /// Changes a row for a pass that holds no part, with room for its entry before and the entry
+    /// settled behind. Without memory for that nothing is changed.
+    fn change_write<R: Wait>(
+        &self,
+        rt: &R,
+        pass: &mut Pass<Core>,
+        writes: &mut Writes,
+        place: Place,
+        had: bool,
+        event: KeyedEvent,
+    ) -> Result<CoreReply, AllocError>
+        requires may { MayChange self.now pass.old.seat pass.old.hands place event }
+        requires had { is_some (at_place writes.old place) ≡ had }
+        ensures made { IfOk result (ChangesAny self.now
+            pass.old.seat pass.old.hands pass.new.seat pass.new.hands place event) }
+        ensures writes { IfOk result (λ told. writes.new ≡ settled writes.old place told) }
+        ensures none { OnErr result (pass.new ≡ pass.old) }
+        ensures kept { OnErr result (writes.new ≡ writes.old) }
+    {
+        let by_row = Arc::make_mut(&mut writes.by_row)?;
+        make_room(by_row, place, had)?;
+        let told = self.change(rt, pass, place, event);
+        settle(by_row, place, had, &told);
+        Ok(told)
+    }
+
     /// Changes the row of a place for the session's transaction, which wrote it already or not.
     fn change_row<R: Wait>(
         &self,
@@ -96,12 +128,22 @@ impl Store {
             → IsChangeBy (shape_in self.now)
             session.old.session (own_of session.old) place event asked
             → Answers self.now session.old session.new asked (written_told place.table result) }
+        ensures writes { (change : Option RowView)
+            → IsChangeTo session.old.session place change event
+            → WritesRow self.now session.old session.new place change result }
+        ensures few { MakesAtMost 2 session.old session.new }
     {
-        if !session.writes.make_room(rt, place, had) {
-            return Err(StoreFault::Memory);
+        match self.change_write(
+            rt,
+            &mut session.pass,
+            &mut session.writes,
+            place,
+            had,
+            event,
+        ) {
+            Ok(told) => answer_of(told),
+            Err(AllocError) => Err(StoreFault::Memory),
         }
-        let told = self.change(rt, &mut session.pass, place, event);
-        session.writes.settle(rt, place, had, told)
     }
 
     /// Changes the row of a key that has one. A block that is imaged is thawed before.
@@ -125,6 +167,9 @@ impl Store {
         ensures same { session.new.session ≡ session.old.session }
         ensures answers { Answers self.now session.old session.new
             (command.Update table row) (written_told table result) }
+        ensures writes { WritesRow self.now
+            session.old session.new (place_of table row) (Some row) result }
+        ensures few { MakesAtMost 2 session.old session.new }
     {
         let place = self.place_in(table, &row);
         let own = session.own_key(place);
@@ -154,6 +199,9 @@ impl Store {
         ensures same { session.new.session ≡ session.old.session }
         ensures answers { Answers self.now session.old session.new
             (command.Delete table key) (written_told table result) }
+        ensures writes { WritesRow self.now
+            session.old session.new (place_at table key) None result }
+        ensures few { MakesAtMost 2 session.old session.new }
     {
         let place = Place { table, key };
         let own = session.own_key(place);

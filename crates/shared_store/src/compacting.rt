@@ -4,6 +4,7 @@ ghost use Rattle.compact_plan.specs.Laws.{IsFitting};
 ghost use Rattle.event_spec.specs.Lawful.{HasBlock, HasTable};
 ghost use Rattle.workload_spec.specs.declared.command.Command.TheVariants as command;
 ghost use Rattle.shared_store.specs.Compacting.{LooksAtBlock, LooksInto, MovesRows, PlansTable};
+ghost use Rattle.shared_store.specs.Open.{LeavesOpen};
 ghost use Rattle.shared_store.specs.Store.{
   Answers,
   HasRoomFor,
@@ -132,6 +133,7 @@ impl Store {
         ensures same { session.new.session ≡ session.old.session }
         ensures answers { Answers self.now session.old session.new
             (command.Compact table) (compacted_told result) }
+        ensures leaves { LeavesOpen self.now session.old session.new }
         ensures few { MakesAtMost (most_blocks_in_table + 1) session.old session.new }
     {
         let moves = self.plan_table(rt, session, table)?;

@@ -3,7 +3,8 @@ ghost use Rattle.std.specs.Prelude.{◌≡◌, true};
 ghost use Rattle.workload_spec.specs.Valid.{is_block_of};
 ghost use Rattle.workload_spec.specs.declared.command.Command.TheVariants as command;
 ghost use Rattle.shared_store.specs.Freezing.{ImagesAny, ImagesAnyHeld, MayImage, MayImageHeld};
-ghost use Rattle.shared_store.specs.Store.{Answers, HasRoomFor, IsSession, shape_in};
+ghost use Rattle.shared_store.specs.Open.{LeavesOpen};
+ghost use Rattle.shared_store.specs.Store.{Answers, HasRoomFor, IsSession, MakesAtMost, shape_in};
 ghost use Rattle.shared_store.specs.Told.{gathered_told, sealed_told};
 
 use crate::session::Session;
@@ -81,6 +82,8 @@ impl Store {
         ensures same { session.new.session ≡ session.old.session }
         ensures answers { Answers self.now session.old session.new
             (command.Gather table block) (gathered_told table block result) }
+        ensures leaves { LeavesOpen self.now session.old session.new }
+        ensures few { MakesAtMost 1 session.old session.new }
     {
         let Some(told) = self.image(rt, &mut session.pass, table, block) else {
             return Err(AllocError);
@@ -112,6 +115,8 @@ impl Store {
         ensures same { session.new.session ≡ session.old.session }
         ensures answers { Answers self.now session.old session.new
             (command.Seal table block) (sealed_told table block result) }
+        ensures leaves { LeavesOpen self.now session.old session.new }
+        ensures few { MakesAtMost 1 session.old session.new }
     {
         let event = KeyedEvent::new(Event::Seal { table, block });
         match self.make(rt, &mut session.pass, event) {

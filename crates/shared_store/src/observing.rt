@@ -5,6 +5,7 @@ ghost use Rattle.workload_spec.specs.declared.command.Command.TheVariants as com
 ghost use Rattle.workload_spec.specs.declared.reply.Said.TheVariants as said;
 ghost use Rattle.shared_store.specs.Keeping.{IsKeeping, beside_observe, rested};
 ghost use Rattle.shared_store.specs.Observing.{ObservesBlock, ObservesTable};
+ghost use Rattle.shared_store.specs.Open.{LeavesOpen};
 ghost use Rattle.shared_store.specs.Store.{
   Answers,
   HasRoomFor,
@@ -67,6 +68,7 @@ impl Store {
         ensures same { session.new.session ≡ session.old.session }
         ensures answers { Answers self.now session.old session.new
             command.Observe (said.Cooling result) }
+        ensures leaves { LeavesOpen self.now session.old session.new }
         ensures few { MakesAtMost most_blocks session.old session.new }
     {
         let mut turned = 0;

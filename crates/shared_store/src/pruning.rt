@@ -5,6 +5,7 @@ ghost use Rattle.workload_spec.specs.declared.command.Command.TheVariants as com
 ghost use Rattle.workload_spec.specs.declared.reply.Said.TheVariants as said;
 ghost use Rattle.shared_store.specs.Keeping.{IsKeeping, beside_prune, rested};
 ghost use Rattle.shared_store.specs.Pruning.{AsksOldest, KnowsOldest, PrunesBlock, PrunesTable};
+ghost use Rattle.shared_store.specs.Open.{LeavesOpen};
 ghost use Rattle.shared_store.specs.Store.{
   Answers,
   HasRoomFor,
@@ -92,6 +93,7 @@ impl Store {
         ensures same { session.new.session ≡ session.old.session }
         ensures answers { Answers self.now session.old session.new
             command.Prune (said.Pruned result) }
+        ensures leaves { LeavesOpen self.now session.old session.new }
         ensures few { MakesAtMost (most_blocks + 1) session.old session.new }
     {
         let oldest = self.oldest(rt, session);

@@ -2,6 +2,7 @@
 ghost use Rattle.std.specs.Prelude.{◌≡◌, ◌+◌, ◌≤◌, Some, true, is_some};
 ghost use Rattle.event_spec.specs.Lawful.{HasBlock};
 ghost use Rattle.event_spec.specs.declared.own.OwnTransaction.{OwnTransaction as Own};
+ghost use Rattle.shared_store.specs.Open.{LeavesOpen};
 ghost use Rattle.shared_store.specs.Reading.{ReadsBlock, most_read, reply_of};
 ghost use Rattle.shared_store.specs.Store.{HasRoomFor, IsSession, own_of, shape_in};
 
@@ -44,6 +45,7 @@ impl Store {
         requires block { HasBlock (shape_in self.now) table block }
         ensures reads { (own : Own) → own_of session.old ≡ Some own
             → ReadsBlock self.now session.old session.new own table block (reply_of result) }
+        ensures leaves { LeavesOpen self.now session.old session.new }
         ensures steps { steps.new ≤ steps.old + most_read (shape_in self.now) table result }
     {
         let own = session.own_all(rt);

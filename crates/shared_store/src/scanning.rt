@@ -1,6 +1,7 @@
 //! Scanning a table.
-ghost use Rattle.std.specs.Prelude.{◌≡◌, ◌<◌, ℕ, None, Some, true, is_some, length, All, IfOk, OnOk};
-ghost use Rattle.std.specs.Prelude.{IsSome, flat_map, option_to_list, slice_index_or, take};
+ghost use Rattle.std.specs.Prelude.{◌≡◌, ◌+◌, ◌<◌, ◌≤◌, ℕ, None, Some, true, is_some, length};
+ghost use Rattle.std.specs.Prelude.{All, IfOk, IsSome, OnOk, flat_map, option_to_list};
+ghost use Rattle.std.specs.Prelude.{slice_index_or, take};
 ghost use Rattle.std.specs.BTreeMap.{insert_entry};
 ghost use Rattle.cell_model.specs.Rows.{Fits};
 ghost use Rattle.core_parts.specs.Fronts.{rows_of_form};
@@ -8,12 +9,14 @@ ghost use Rattle.event_spec.specs.Lawful.{HasBlock};
 ghost use Rattle.event_spec.specs.declared.own.OwnTransaction.{OwnTransaction as Own};
 ghost use Rattle.isolation_spec.specs.Contents.{contents_of, place_cmp};
 ghost use Rattle.workload_spec.specs.declared.command.Command.TheVariants as command;
+ghost use Rattle.shared_store.specs.Open.{FindsRows};
 ghost use Rattle.shared_store.specs.Reading.{rows_in};
-ghost use Rattle.shared_store.specs.Scanning.{ReadsInto, laid};
+ghost use Rattle.shared_store.specs.Scanning.{ReadsInto, ReadsOnce, laid};
 ghost use Rattle.shared_store.specs.Store.{
   Answers,
   HasRoomFor,
   IsSession,
+  MakesAtMost,
   most_blocks_in_table,
   own_of,
   shape_in,
@@ -43,8 +46,9 @@ fn rows_of_columns<L: Ledger>(
     steps: &mut Steps<L>,
 ) -> Result<Vec<Row>, AllocError>
     requires { (slot : ℕ) → slot < count → IsSome (slice_index_or columns.now.rows slot None) }
-    ensures { IfOk result (λ rows. rows.items
+    ensures rows { IfOk result (λ rows. rows.items
         ≡ flat_map (λ slot. option_to_list slot) (take count columns.now.rows)) }
+    ensures steps { steps.new ≤ steps.old + count }
 {
     let mut rows = Vec::with_capacity(alloc, count as usize)?;
     for slot in 0..count {
@@ -62,7 +66,8 @@ fn rows_of_form<L: Ledger>(
     form: ReadForm,
     steps: &mut Steps<L>,
 ) -> Result<Vec<Row>, AllocError>
-    ensures { IfOk result (λ rows. rows.items ≡ rows_of_form form) }
+    ensures rows { IfOk result (λ rows. rows.items ≡ rows_of_form form) }
+    ensures steps { steps.new ≤ steps.old + length (rows_of_form form) }
 {
     match form {
         ReadForm::Listed(rows) => Ok(rows.into_vec()),
@@ -76,7 +81,8 @@ fn rows_of_read<L: Ledger>(
     read: BlockRows,
     steps: &mut Steps<L>,
 ) -> Result<Vec<Row>, AllocError>
-    ensures { IfOk result (λ rows. rows.items ≡ rows_in read) }
+    ensures rows { IfOk result (λ rows. rows.items ≡ rows_in read) }
+    ensures steps { steps.new ≤ steps.old + length (rows_in read) }
 {
     match read {
         BlockRows::Rows(rows) => rows_of_form(alloc, rows.into_form(), steps),
@@ -149,7 +155,7 @@ impl Store {
         requires block { HasBlock (shape_in self.now) table block }
         ensures { (own : Own) → own_of session.old ≡ Some own → ReadsInto self.now
             session.old session.new own table block by_place.old.entries by_place.new.entries
-            result }
+            steps.old steps.new result }
     {
         let shape = self.hall.shape();
         let read = self.read(rt, session, table, block, steps)?;
@@ -157,8 +163,68 @@ impl Store {
         lay_rows(shape.schema(table), table, rows, by_place)
     }
 
-    /// The same as a scan, with a count of steps of its own.
-    fn scan_by<R: Wait, L: Ledger>(
+    /// All rows of a table that the session's transaction sees, in the order of their keys. Each
+    /// row that is looked at is a step, and so is each that is made of a frozen block's columns or
+    /// of a copy of a block's.
+    ///
+    /// # Errors
+    ///
+    /// There is no memory for them.
+    pub fn scan<R: Wait, L: Ledger>(
+        &self,
+        rt: &R,
+        session: &mut Session,
+        table: u32,
+        steps: &mut Steps<L>,
+    ) -> Result<Rows, AllocError>
+        requires session { IsSession self.now session.old }
+        requires room { HasRoomFor most_blocks_in_table session.old }
+        requires busy { is_some (own_of session.old) ≡ true }
+        requires table { table < length (shape_in self.now).tables }
+        ensures session { IsSession self.now session.new }
+        ensures same { session.new.session ≡ session.old.session }
+        ensures answers { Answers self.now
+            session.old session.new (command.Scan table) (scanned_told result) }
+        ensures finds { FindsRows self.now session.old session.new table result }
+        ensures few { MakesAtMost most_blocks_in_table session.old session.new }
+        ensures steps { ReadsOnce self.now
+            session.old session.new table steps.old steps.new }
+    {
+        let shape = self.hall.shape();
+        let mut by_place = BTreeMap::new(shape.alloc());
+        for block in 0..shape.blocks(table) {
+            self.read_into(rt, session, table, block, &mut by_place, steps)?;
+        }
+        rows_in_order(shape.alloc(), table, by_place)
+    }
+
+    /// Scans a table as [`Store::scan`] does, for a caller that counts no steps.
+    ///
+    /// # Errors
+    ///
+    /// Those of [`Store::scan`].
+    pub fn scan_uncounted<R: Wait>(
+        &self,
+        rt: &R,
+        session: &mut Session,
+        table: u32,
+    ) -> Result<Rows, AllocError>
+        requires session { IsSession self.now session.old }
+        requires room { HasRoomFor most_blocks_in_table session.old }
+        requires busy { is_some (own_of session.old) ≡ true }
+        requires table { table < length (shape_in self.now).tables }
+        ensures session { IsSession self.now session.new }
+        ensures same { session.new.session ≡ session.old.session }
+        ensures answers { Answers self.now
+            session.old session.new (command.Scan table) (scanned_told result) }
+        ensures finds { FindsRows self.now session.old session.new table result }
+        ensures few { MakesAtMost most_blocks_in_table session.old session.new }
+    {
+        self.scan_on::<R, Brand>(rt, session, table, Blank::new(1))
+    }
+
+    /// The same, with a count of steps of its own, on this blank.
+    fn scan_on<R: Wait, L: Ledger>(
         &self,
         rt: &R,
         session: &mut Session,
@@ -176,36 +242,10 @@ impl Store {
         ensures same { session.new.session ≡ session.old.session }
         ensures answers { Answers self.now
             session.old session.new (command.Scan table) (scanned_told result) }
+        ensures finds { FindsRows self.now session.old session.new table result }
+        ensures few { MakesAtMost most_blocks_in_table session.old session.new }
     {
-        let shape = self.hall.shape();
         let mut steps = Steps::<L>::new(blank);
-        let mut by_place = BTreeMap::new(shape.alloc());
-        for block in 0..shape.blocks(table) {
-            self.read_into(rt, session, table, block, &mut by_place, &mut steps)?;
-        }
-        rows_in_order(shape.alloc(), table, by_place)
-    }
-
-    /// All rows of a table that the session's transaction sees, in the order of their keys.
-    ///
-    /// # Errors
-    ///
-    /// There is no memory for them.
-    pub fn scan<R: Wait>(
-        &self,
-        rt: &R,
-        session: &mut Session,
-        table: u32,
-    ) -> Result<Rows, AllocError>
-        requires session { IsSession self.now session.old }
-        requires room { HasRoomFor most_blocks_in_table session.old }
-        requires busy { is_some (own_of session.old) ≡ true }
-        requires table { table < length (shape_in self.now).tables }
-        ensures session { IsSession self.now session.new }
-        ensures same { session.new.session ≡ session.old.session }
-        ensures answers { Answers self.now
-            session.old session.new (command.Scan table) (scanned_told result) }
-    {
-        self.scan_by::<R, Brand>(rt, session, table, Blank::new(1))
+        self.scan(rt, session, table, &mut steps)
     }
 }

@@ -1,6 +1,7 @@
 //! The rows that a transaction wrote.
 ghost use Rattle.std.specs.Prelude.{◌≡◌, ◌≢◌, ℕ, true, false, [], None, Some};
 ghost use Rattle.std.specs.Prelude.{◌==◌, IfOk, OnErr, OnOk, find, is_ok, is_some, option_map};
+ghost use Rattle.std.specs.Arc.{arc_value};
 ghost use Rattle.std.specs.BTreeMap.{insert_entry};
 ghost use Rattle.std.specs.Map.{remove_entry};
 ghost use Rattle.isolation_spec.specs.Contents.{PlaceMap, at_place, is_place, place_cmp};
@@ -19,11 +20,13 @@ use std::collections::BTreeMap;
 use std::marker::Model;
 use std::sync::{Arc, Wait};
 
-/// The rows that a transaction wrote, each with the slot on which its entries stand. They are
-/// shared with an event that asks for them all, until it was made. Contracts see the map.
+/// The rows that a transaction wrote, each with the slot on which its entries stand. An event that
+/// asks for them all shares them; a write that finds them shared still goes on with a copy of its
+/// own. Contracts see the map.
 #[derive(Drop)]
 pub struct Writes {
-    by_row: Arc<BTreeMap<Place, SlotId>>,
+    pub(crate) by_row: Arc<BTreeMap<Place, SlotId>>,
+    none: NoRows,
 }
 
 impl Model for Writes {
@@ -40,6 +43,49 @@ impl Model for Writes {
     ghost view = { λ writes. (arc_value writes.by_row).entries };
 }
 
+/// A map without rows, with which a transaction begins where an event shares the rows of the one
+/// before: a begin takes no memory.
+#[derive(Drop)]
+struct NoRows {
+    by_row: Arc<BTreeMap<Place, SlotId>>,
+}
+
+impl Model for NoRows {
+    ghost use Rattle.std.specs.Prelude.{◌≡◌, List, ℕ, []};
+    ghost use Rattle.std.specs.Arc.{arc_value};
+    ghost use Rattle.std.specs.Coded.{coded_list, coded×, coded_ℕ};
+    ghost use Rattle.isolation_spec.specs.declared.place.Place.{Place as PlaceValue};
+    ghost use Rattle.isolation_spec.specs.contracts.place.Place.{the_row};
+
+    ghost Value = { List (PlaceValue × ℕ) };
+
+    ghost coded = { coded_list (coded× the_row.coded coded_ℕ) };
+
+    ghost view = { λ none. (arc_value none.by_row).entries };
+
+    ghost invariant = { λ none. (arc_value none.by_row).entries ≡ [] };
+}
+
+/// A map without rows, with one owner.
+fn no_rows(alloc: Global) -> Result<Arc<BTreeMap<Place, SlotId>>, AllocError>
+    ensures { IfOk result (λ by_row. (arc_value by_row).entries ≡ []) }
+{
+    Ok(Arc::new(alloc, BTreeMap::new(alloc))?)
+}
+
+/// One owner more of a map. It asks again only where the map has 2^63 - 1 owners, as many as can be
+/// counted, and waits for none of them to let go.
+fn share<R: Wait>(rt: &R, by_row: &Arc<BTreeMap<Place, SlotId>>) -> Arc<BTreeMap<Place, SlotId>>
+    ensures { arc_value result ≡ arc_value by_row.now }
+{
+    for _ in rt.forever() {
+        if let Ok(shared) = Arc::try_clone(by_row) {
+            return shared;
+        }
+    }
+    unreachable!()
+}
+
 /// Lays the slot of a row. Only where it has none there may be no memory.
 fn lay(by_row: &mut BTreeMap<Place, SlotId>, place: Place, slot: SlotId) -> Result<(), AllocError>
     ensures ok { OnOk result (by_row.new.entries
@@ -53,13 +99,85 @@ fn lay(by_row: &mut BTreeMap<Place, SlotId>, place: Place, slot: SlotId) -> Resu
     }
 }
 
+/// Lays the slot of a row that has an entry.
+fn lay_over(by_row: &mut BTreeMap<Place, SlotId>, place: Place, slot: SlotId)
+    requires { at_place by_row.old.entries place ≢ None }
+    ensures { by_row.new.entries ≡ insert_entry place_cmp by_row.old.entries place slot }
+{
+    let Ok(()) = lay(by_row, place, slot) else {
+        unreachable!()
+    };
+}
+
+/// Takes away the entry of a row that had none.
+fn take_back(by_row: &mut BTreeMap<Place, SlotId>, place: Place, had: bool)
+    ensures some { had ≡ true → by_row.new.entries ≡ by_row.old.entries }
+    ensures none { had ≡ false
+        → by_row.new.entries ≡ remove_entry (is_place place) by_row.old.entries }
+{
+    if !had {
+        by_row.remove(&place);
+    }
+}
+
+/// Makes room for a row before its write, if it has no entry.
+pub(crate) fn make_room(
+    by_row: &mut BTreeMap<Place, SlotId>,
+    place: Place,
+    had: bool,
+) -> Result<(), AllocError>
+    ensures made { OnOk result (by_row.new.entries ≡ roomed by_row.old.entries place had) }
+    ensures none { OnErr result (by_row.new.entries ≡ by_row.old.entries) }
+{
+    if had {
+        return Ok(());
+    }
+    lay(by_row, place, SlotId::join(0, 0))
+}
+
+/// Settles a row's entry behind its write, by what that was told.
+pub(crate) fn settle(
+    by_row: &mut BTreeMap<Place, SlotId>,
+    place: Place,
+    had: bool,
+    told: &CoreReply,
+)
+    requires { IsRoomed by_row.old.entries place had }
+    ensures { (before : PlaceMap ℕ) → is_some (at_place before place) ≡ had
+        → by_row.old.entries ≡ roomed before place had
+        → by_row.new.entries ≡ settled before place told.now }
+{
+    match told {
+        Reply::Written(slot) => lay_over(by_row, place, *slot),
+        _ => take_back(by_row, place, had),
+    }
+}
+
+/// What a write answers that was told this.
+pub(crate) fn answer_of(told: CoreReply) -> Result<(), StoreFault>
+    requires { IsWriteReply told }
+    ensures tells { (table : ℕ) → told_by table 0 told ≡ Some (written_told table result) }
+    ensures fault { fault_answered result ≡ fault_replied told }
+    ensures accepted { is_ok result ≡ is_written told }
+{
+    match told {
+        Reply::Written(_) => Ok(()),
+        Reply::Refused(fault) => Err(StoreFault::Write(fault)),
+        Reply::Memory => Err(StoreFault::Memory),
+        _ => unreachable!(),
+    }
+}
+
 impl Writes {
     /// No rows.
     pub(crate) fn new(alloc: Global) -> Result<Writes, AllocError>
         ensures { IfOk result (λ writes. writes ≡ []) }
     {
-        let by_row = Arc::new(alloc, BTreeMap::new(alloc))?;
-        Ok(Writes { by_row })
+        let by_row = no_rows(alloc)?;
+        let none = NoRows {
+            by_row: no_rows(alloc)?,
+        };
+        Ok(Writes { by_row, none })
     }
 
     /// The slot of a row that was written.
@@ -82,122 +200,20 @@ impl Writes {
         None
     }
 
-    /// All rows, shared with an event. It waits while they are shared too often to count.
+    /// All rows, shared with an event.
     pub(crate) fn share<R: Wait>(&self, rt: &R) -> OwnWrites
         ensures { result ≡ self.now }
     {
-        for _ in rt.forever() {
-            if let Ok(by_row) = Arc::try_clone(&self.by_row) {
-                return OwnWrites::from(by_row);
-            }
-        }
-        unreachable!()
+        OwnWrites::from(share(rt, &self.by_row))
     }
 
-    /// Forgets all rows. It waits while an event shares them.
+    /// Forgets all rows. A map that an event shares still is left to it.
     pub(crate) fn clear<R: Wait>(&mut self, rt: &R)
         ensures { self.new ≡ [] }
     {
-        for _ in rt.forever() {
-            if let Some(by_row) = Arc::get_mut(&mut self.by_row) {
-                by_row.clear();
-                return;
-            }
-        }
-        unreachable!()
-    }
-
-    /// Lays the slot of a row. It waits while an event shares the rows.
-    pub(crate) fn put<R: Wait>(
-        &mut self,
-        rt: &R,
-        place: Place,
-        slot: SlotId,
-    ) -> Result<(), AllocError>
-        ensures ok { OnOk result (self.new ≡ insert_entry place_cmp self.old place slot) }
-        ensures err { OnErr result (self.new ≡ self.old) }
-        ensures cause { OnErr result (at_place self.old place ≡ None) }
-    {
-        for _ in rt.forever() {
-            if let Some(by_row) = Arc::get_mut(&mut self.by_row) {
-                return lay(by_row, place, slot);
-            }
-        }
-        unreachable!()
-    }
-
-    /// Lays the slot of a row that has an entry.
-    fn lay_over<R: Wait>(&mut self, rt: &R, place: Place, slot: SlotId)
-        requires { at_place self.old place ≢ None }
-        ensures { self.new ≡ insert_entry place_cmp self.old place slot }
-    {
-        let Ok(()) = self.put(rt, place, slot) else {
-            unreachable!()
-        };
-    }
-
-    /// Takes away the entry of a row that had none.
-    fn take_back<R: Wait>(&mut self, rt: &R, place: Place, had: bool)
-        ensures some { had ≡ true → self.new ≡ self.old }
-        ensures none { had ≡ false → self.new ≡ remove_entry (is_place place) self.old }
-    {
-        if had {
-            return;
-        }
-        for _ in rt.forever() {
-            if let Some(by_row) = Arc::get_mut(&mut self.by_row) {
-                by_row.remove(&place);
-                return;
-            }
-        }
-        unreachable!()
-    }
-
-    /// Makes room for a row before its write, if it has no entry, and says whether there was
-    /// memory.
-    pub(crate) fn make_room<R: Wait>(&mut self, rt: &R, place: Place, had: bool) -> bool
-        ensures made { result ≡ true → self.new ≡ roomed self.old place had }
-        ensures none { result ≡ false → self.new ≡ self.old }
-    {
-        if had {
-            return true;
-        }
-        match self.put(rt, place, SlotId::join(0, 0)) {
-            Ok(()) => true,
-            Err(AllocError) => false,
-        }
-    }
-
-    /// Settles a row's entry behind its write, and tells the write's answer.
-    pub(crate) fn settle<R: Wait>(
-        &mut self,
-        rt: &R,
-        place: Place,
-        had: bool,
-        told: CoreReply,
-    ) -> Result<(), StoreFault>
-        requires told { IsWriteReply told }
-        requires room { IsRoomed self.old place had }
-        ensures writes { (before : PlaceMap ℕ) → is_some (at_place before place) ≡ had
-            → self.old ≡ roomed before place had → self.new ≡ settled before place told }
-        ensures tells { (table : ℕ) → told_by table 0 told ≡ Some (written_told table result) }
-        ensures fault { fault_answered result ≡ fault_replied told }
-        ensures accepted { is_ok result ≡ is_written told }
-    {
-        match told {
-            Reply::Written(slot) => {
-                self.lay_over(rt, place, slot);
-                Ok(())
-            }
-            Reply::Refused(fault) => {
-                self.take_back(rt, place, had);
-                Err(StoreFault::Write(fault))
-            }
-            Reply::Memory => {
-                self.take_back(rt, place, had);
-                Err(StoreFault::Memory)
-            }
-            _ => unreachable!(),
+        match Arc::get_mut(&mut self.by_row) {
+            Some(by_row) => by_row.clear(),
+            None => self.by_row = share(rt, &self.none.by_row),
         }
     }
 }

@@ -1,27 +1,32 @@
 //! Writing rows.
-ghost use Rattle.std.specs.Prelude.{◌≡◌, ℕ, Some, true, is_some};
+ghost use Rattle.std.specs.Prelude.{◌≡◌, ℕ, IfOk, OnErr, Some, true, is_some};
 ghost use Rattle.block_body.specs.Keys.{HasKey};
 ghost use Rattle.event_spec.specs.Sound.{IsShape};
 ghost use Rattle.event_spec.specs.declared.reply.WriteFault.TheVariants as fault;
-ghost use Rattle.isolation_spec.specs.Contents.{place_of};
+ghost use Rattle.isolation_spec.specs.Contents.{at_place, place_of};
 ghost use Rattle.workload_spec.specs.Valid.{fits_table};
 ghost use Rattle.workload_spec.specs.declared.command.Command.TheVariants as command;
+ghost use Rattle.shared_store.specs.Making.{MakesAny, MayMake};
 ghost use Rattle.shared_store.specs.Open.{WritesRow};
 ghost use Rattle.shared_store.specs.Store.{Answers, HasRoomFor, IsSession, MakesAtMost, own_of};
 ghost use Rattle.shared_store.specs.Store.{seen, shape_in};
 ghost use Rattle.shared_store.specs.Told.{written_told};
-ghost use Rattle.shared_store.specs.Writing.{FoundFull};
+ghost use Rattle.shared_store.specs.Writing.{FoundFull, settled};
 ghost use Rattle.shared_store.specs.declared.faults.StoreFault.TheVariants as refused;
 
 use crate::faults::StoreFault;
 use crate::session::Session;
 use crate::store::Store;
+use crate::writes::{Writes, answer_of, make_room, settle};
 use block_body::key_of;
 use cell_model::Row;
 use core_parts::KeyedEvent;
+use engine_core::{Core, CoreReply};
 use event_spec::Event;
+use hall_steps::Pass;
 use isolation_spec::Place;
-use std::sync::Wait;
+use std::alloc::AllocError;
+use std::sync::{Arc, Wait};
 
 /// The place of a row that has a key.
 pub(crate) fn place_of(table: u32, row: &Row) -> Place
@@ -45,6 +50,32 @@ impl Store {
         // The table's columns begin with the key.
         let _columns = self.hall.shape().schema(table).columns();
         place_of(table, row)
+    }
+
+    /// Makes a write's event for a pass that holds no part, with room for the row's entry before
+    /// and the entry settled behind. Without memory for that no event is made.
+    fn make_write<R: Wait>(
+        &self,
+        rt: &R,
+        pass: &mut Pass<Core>,
+        writes: &mut Writes,
+        place: Place,
+        had: bool,
+        event: KeyedEvent,
+    ) -> Result<CoreReply, AllocError>
+        requires may { MayMake self.now pass.old.seat pass.old.hands event }
+        requires had { is_some (at_place writes.old place) ≡ had }
+        ensures made { IfOk result (MakesAny self.now
+            pass.old.seat pass.old.hands pass.new.seat pass.new.hands event) }
+        ensures writes { IfOk result (λ told. writes.new ≡ settled writes.old place told) }
+        ensures none { OnErr result (pass.new ≡ pass.old) }
+        ensures kept { OnErr result (writes.new ≡ writes.old) }
+    {
+        let by_row = Arc::make_mut(&mut writes.by_row)?;
+        make_room(by_row, place, had)?;
+        let told = self.make(rt, pass, event);
+        settle(by_row, place, had, &told);
+        Ok(told)
     }
 
     /// Adds a row whose key has none.
@@ -77,11 +108,17 @@ impl Store {
         let place = self.place_in(table, &row);
         let own = session.own_key(place);
         let had = own.written.is_some();
-        if !session.writes.make_room(rt, place, had) {
-            return Err(StoreFault::Memory);
-        }
         let event = KeyedEvent::new(Event::Insert { own, table, row });
-        let told = self.make(rt, &mut session.pass, event);
-        session.writes.settle(rt, place, had, told)
+        match self.make_write(
+            rt,
+            &mut session.pass,
+            &mut session.writes,
+            place,
+            had,
+            event,
+        ) {
+            Ok(told) => answer_of(told),
+            Err(AllocError) => Err(StoreFault::Memory),
+        }
     }
 }

@@ -5,10 +5,8 @@ use native.Mathlib.Nat.{mul-add}
 use Rattle.std.specs.Prelude.{Result, count_by, flat_map, option_map}
 use Rattle.std.specs.Io.KnownBytes.{Appends}
 use Rattle.std.proofs.KnownBytes.{Appends-nil}
-use Rattle.std.proofs.lemmas.Grind.{flat_map-append}
 use Rattle.std.proofs.lemmas.List.{map-append, length-map}
 use Rattle.std.proofs.lemmas.List.FromFn.{length-range_with_len}
-use Rattle.std.proofs.lemmas.List.Sums.{count_by-le-length, sum_by-append}
 use Rattle.std.proofs.lemmas.Option.{same_Some}
 use Rattle.arrow_spec.specs.Streams.{end_word, schema_message, stream_of}
 use Rattle.block_spec.specs.Slots.{Row}
@@ -35,6 +33,7 @@ use Rattle.shared_store.specs.Scanning.{ArePlain}
 use Rattle.shared_store.specs.Store.{Answers, IsSession, StoreView, TookPartsOf, own_of, seen, shape_in, taken_by}
 use Rattle.shared_store.specs.declared.session.Session.{Session}
 use Rattle.shared_store.proofs.Calls.{refused_call, took_none}
+use Rattle.shared_store.proofs.Counted.{count_more, count_one, le_more, rows_all, rows_more, rows_one, sum_steps}
 use Rattle.shared_store.proofs.Scanned.{below_more, is_asked, plain_added, plain_cut, plain_cut_behind, plain_granted, read_at, rest_of, went_nowhere, went_on}
 use Rattle.workload_spec.specs.declared.command.Command.TheVariants as command
 use Rattle.workload_spec.specs.declared.reply.Said.{Said}
@@ -50,46 +49,17 @@ use Rattle.store_export.proofs.Breaking.{HasBroken, HasSent, breaks_before, brea
 
 -- ---- what replies count
 
--- How many rows some replies told together.
-abbrev rows_all : List CoreReply → ℕ
-rows_all replies = length (flat_map rows_told replies)
-
 -- Whether a reply told a row at all.
 abbrev with_row : CoreReply → Bool
 with_row told = is_some_row (rows_told told)
 
--- A count over two lists of replies is the sum of both counts.
-count_more : (p : CoreReply → Bool) (xs ys : List CoreReply) → count_by p (xs ++ ys) ≡ count_by p xs + count_by p ys
-count_more p xs ys = sum_by-append (λ told. cond {A = ℕ} (p told) 1 0) xs ys
-
--- A count over one reply is one at most.
-count_one : (p : CoreReply → Bool) (told : CoreReply) → count_by p (told ∷ []) ≤ 1
-count_one p told = count_by-le-length p (told ∷ [])
-
--- One more reply adds its rows to those that the others told.
-rows_more : (xs : List CoreReply) (told : CoreReply) → rows_all (xs ++ told ∷ []) ≡ rows_all xs + rows_all (told ∷ [])
-rows_more xs told =
-    ap (λ (rows : List Row). length rows) (flat_map-append rows_told xs (told ∷ [])) ∙ length-append (flat_map rows_told xs) (flat_map rows_told (told ∷ []))
-
--- One reply alone counts as many rows as it told.
-rows_one : (told : CoreReply) → rows_all (told ∷ []) ≡ length (rows_told told)
-rows_one told = ap (λ (rows : List Row). length rows) (append-nil (rows_told told))
-
 -- ---- steps
-
--- A number is at most itself and another together.
-le_more : (a b : ℕ) → a ≤ a + b
-le_more a b = omega arith
 
 -- A product is no less where its second factor is no less.
 times_most : (a b c : ℕ) → b ≤ c → a * b ≤ a * c
 times_most a b c le =
     let apart : c ≡ b + (c - b) = omega (arith, le) in
     subst (λ n. a * b ≤ n) (sym (ap (λ n. a * n) apart ∙ mul-add a b (c - b))) (le_more (a * b) (a * (c - b)))
-
--- Steps within one bound and then within another are within both together.
-sum_steps : (spent a b steps later : ℕ) → steps ≤ spent + a → later ≤ steps + b → later ≤ spent + (a + b)
-sum_steps spent a b steps later first then = omega (arith, first, then)
 
 -- Steps within a bound are within any that is no less.
 sum_most : (spent a b later : ℕ) → later ≤ spent + a → a ≤ b → later ≤ spent + b

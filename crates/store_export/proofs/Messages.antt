@@ -10,6 +10,7 @@ use Rattle.core_parts.proofs.SameKinds.{same_message}
 use Rattle.ipc_write.specs.Calls.{MakesPiece, WriterView}
 use Rattle.ipc_write.specs.declared.faults.PieceFault.{PieceFault}
 use Rattle.ipc_write.specs.declared.faults.PieceFault.TheVariants.{Sink, Memory}
+use Rattle.shared_store.proofs.Counted.{rows_counted}
 use Rattle.store_export.specs.Groups.{group_message}
 
 -- rows make the message of their batch
@@ -24,18 +25,6 @@ retold T S written faults old new piece (Sink fault) told = told
 retold T S written faults old new piece (Memory refused) told = told
 
 -- ---- images
-
--- Where each of the first slots holds a row, they have as many rows as slots.
-first_rows : (n : ℕ) (slots : List (Option Row)) → ((slot : ℕ) → slot < n → IsSome (get_or slots slot None))
-    → length (flat_map (λ slot. option_to_list slot) (take n slots)) ≡ n
-first_rows zero slots held = refl
-first_rows (suc n) [] held = absurd (let never : false ≡ true = held 0 (omega arith) in let no : ⊥ = cc in no)
-first_rows (suc n) (None ∷ slots) held = absurd (let never : false ≡ true = held 0 (omega arith) in let no : ⊥ = cc in no)
-first_rows (suc n) (Some row ∷ slots) held = ap suc (first_rows n slots (λ slot less. held (suc slot) (omega (arith, less))))
-
--- a whole image has as many rows as it says
-pub rows_counted : (image : ImageValue) → IsWhole image → length (rows_of image) ≡ image.rows
-rows_counted image whole = first_rows image.rows image.slots whole.held
 
 -- the message of an image of a table's kinds is that of its rows
 pub image_message : (image : ImageValue) (columns : List Column) (rows : List Row) → IsWhole image → rows_of image ≡ rows → kinds_of image.columns ≡ kinds_of columns

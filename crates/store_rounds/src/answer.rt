@@ -75,7 +75,7 @@ fn answer<R: Wait + Threads + Sync>(
     match command {
         Command::Begin => begun(store.begin(rt, session)),
         Command::Get { table, key } => found(store.get(rt, session, table, key)),
-        Command::Scan { table } => scanned(store.scan(rt, session, table)),
+        Command::Scan { table } => scanned(store.scan_uncounted(rt, session, table)),
         Command::Insert { table, row } => {
             let row = spent.renew(row);
             written(table, store.insert(rt, session, table, row))

@@ -3,7 +3,8 @@ use Rattle.arrow_spec.specs.Streams.{batch_message}
 use Rattle.block_columns.specs.Images.{rows_of}
 use Rattle.core_parts.specs.Kinds.{kinds_of}
 use Rattle.ipc_write.specs.Calls.{MakesPiece, WroteAll}
-use Rattle.store_export.proofs.Messages.{image_message, retold, rows_counted}
+use Rattle.shared_store.proofs.Counted.{rows_counted}
+use Rattle.store_export.proofs.Messages.{image_message, retold}
 use Rattle.store_export.proofs.sending.write_whole.Goals as goal
 
 pub returns-in-Ok-clause-answer : goal.returns-in-Ok-clause-answer

@@ -14,8 +14,8 @@ get-requires-clause-table g c =
     table_of_key (shape_in c.args.store.now).tables c.in-Get.table c.in-Get.key
     (ap (is_command (shape_in c.args.store.now).tables) (sym c.in-Get.is) ∙ c.requires.command)
 
-pub scan-requires-clause-table : goal.scan-requires-clause-table
-scan-requires-clause-table g c =
+pub scan_uncounted-requires-clause-table : goal.scan_uncounted-requires-clause-table
+scan_uncounted-requires-clause-table g c =
     table_named (shape_in c.args.store.now).tables c.in-Scan.table
     (ap (is_command (shape_in c.args.store.now).tables) (sym c.in-Scan.is) ∙ c.requires.command)
 

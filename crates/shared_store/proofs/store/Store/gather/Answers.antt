@@ -1,15 +1,18 @@
-use Rattle.std.proofs.Common.{Option, refl, sym, subst}
+use Rattle.std.proofs.Common.{Option, arith, refl, sym, subst}
 use Rattle.event_spec.specs.Parts.{body_at}
 use Rattle.event_spec.specs.Replies.{CoreReply}
+use Rattle.run_spec.specs.Handed.{own_in}
+use Rattle.run_spec.specs.Opened.{own_after}
 use Rattle.store_laws.specs.Laws.{TellsLine}
 use Rattle.store_laws.specs.Own.{parts_after}
 use Rattle.workload_spec.specs.declared.command.Command.TheVariants.{Gather}
 use Rattle.workload_spec.specs.declared.reply.Said.TheVariants as said
 use Rattle.shared_store.specs.Freezing.{Imaged, imaging}
-use Rattle.shared_store.specs.Store.{own_of, shape_in}
+use Rattle.shared_store.specs.Store.{own_of, seen, shape_in}
 use Rattle.shared_store.specs.declared.session.Session.{Session}
 use Rattle.shared_store.proofs.Calls.{told_or_memory}
 use Rattle.shared_store.proofs.Imagings.{gathered_none, gathered_whole, images_tell, none_is}
+use Rattle.shared_store.proofs.Stays.{call_few, call_leaves, gather_asks}
 use Rattle.shared_store.proofs.store.Store.gather.Goals as goal
 
 pub unreachable-requires : goal.unreachable-requires
@@ -99,3 +102,55 @@ returns-in-Memory-clause-answers g c =
     let line = said.Memory in
     (gathered_whole st s new c.args.table c.args.block c.in-Some.told line c.requires.session all refl refl
     (subst (λ (r : CoreReply). TellsLine (own_of s) (Gather c.args.table c.args.block) r line) (sym c.in-Memory.is) (refl, refl))).1
+
+pub returns-in_default-clause-leaves : goal.returns-in_default-clause-leaves
+returns-in_default-clause-leaves g c =
+    let st = c.args.self.now in
+    let s = c.args.session.now in
+    call_leaves st s _ (Gather c.args.table c.args.block) _ c.requires.session (returns-in_default-clause-session g c) refl (returns-in_default-clause-answers g c)
+    (λ made. gather_asks (shape_in st) (own_after (own_in (shape_in st) s.session (seen s))) s.session made c.args.table c.args.block)
+
+pub returns-in_default-clause-few : goal.returns-in_default-clause-few
+returns-in_default-clause-few g c =
+    let s = c.args.session.now in
+    let new : Session = record { pass = c.image.new.pass; session = s.session; snapshot = s.snapshot; writes = s.writes } in
+    call_few c.args.self.now s new (Gather c.args.table c.args.block) _ 1 (returns-in_default-clause-answers g c) (λ made. omega arith)
+
+pub returns-in-Imaged-clause-leaves : goal.returns-in-Imaged-clause-leaves
+returns-in-Imaged-clause-leaves g c =
+    let st = c.args.self.now in
+    let s = c.args.session.now in
+    call_leaves st s _ (Gather c.args.table c.args.block) _ c.requires.session (returns-in-Imaged-clause-session g c) refl (returns-in-Imaged-clause-answers g c)
+    (λ made. gather_asks (shape_in st) (own_after (own_in (shape_in st) s.session (seen s))) s.session made c.args.table c.args.block)
+
+pub returns-in-Imaged-clause-few : goal.returns-in-Imaged-clause-few
+returns-in-Imaged-clause-few g c =
+    let s = c.args.session.now in
+    let new : Session = record { pass = c.image.new.pass; session = s.session; snapshot = s.snapshot; writes = s.writes } in
+    call_few c.args.self.now s new (Gather c.args.table c.args.block) _ 1 (returns-in-Imaged-clause-answers g c) (λ made. omega arith)
+
+pub returns-in-NoSeal-clause-leaves : goal.returns-in-NoSeal-clause-leaves
+returns-in-NoSeal-clause-leaves g c =
+    let st = c.args.self.now in
+    let s = c.args.session.now in
+    call_leaves st s _ (Gather c.args.table c.args.block) _ c.requires.session (returns-in-NoSeal-clause-session g c) refl (returns-in-NoSeal-clause-answers g c)
+    (λ made. gather_asks (shape_in st) (own_after (own_in (shape_in st) s.session (seen s))) s.session made c.args.table c.args.block)
+
+pub returns-in-NoSeal-clause-few : goal.returns-in-NoSeal-clause-few
+returns-in-NoSeal-clause-few g c =
+    let s = c.args.session.now in
+    let new : Session = record { pass = c.image.new.pass; session = s.session; snapshot = s.snapshot; writes = s.writes } in
+    call_few c.args.self.now s new (Gather c.args.table c.args.block) _ 1 (returns-in-NoSeal-clause-answers g c) (λ made. omega arith)
+
+pub returns-in-Memory-clause-leaves : goal.returns-in-Memory-clause-leaves
+returns-in-Memory-clause-leaves g c =
+    let st = c.args.self.now in
+    let s = c.args.session.now in
+    call_leaves st s _ (Gather c.args.table c.args.block) _ c.requires.session (returns-in-Memory-clause-session g c) refl (returns-in-Memory-clause-answers g c)
+    (λ made. gather_asks (shape_in st) (own_after (own_in (shape_in st) s.session (seen s))) s.session made c.args.table c.args.block)
+
+pub returns-in-Memory-clause-few : goal.returns-in-Memory-clause-few
+returns-in-Memory-clause-few g c =
+    let s = c.args.session.now in
+    let new : Session = record { pass = c.image.new.pass; session = s.session; snapshot = s.snapshot; writes = s.writes } in
+    call_few c.args.self.now s new (Gather c.args.table c.args.block) _ 1 (returns-in-Memory-clause-answers g c) (λ made. omega arith)

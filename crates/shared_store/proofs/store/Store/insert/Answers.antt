@@ -1,9 +1,10 @@
-use Rattle.std.proofs.Common.{arith, ◌≡◌, Option, Some, option_map, refl, sym, ap, subst, ◌∙◌}
+use Rattle.std.proofs.Common.{arith, ◌≡◌, ℕ, Option, Some, option_map, refl, sym, ap, subst, ◌∙◌}
 use mathlib.Core.Logic.{inl}
+use Rattle.block_spec.specs.Slots.{Row}
 use Rattle.event_spec.specs.declared.event.Event.TheVariants as event
 use Rattle.event_spec.specs.declared.own.OwnTransaction.{OwnTransaction}
 use Rattle.event_spec.specs.Effects.{CoreEvent, insert_judged}
-use Rattle.isolation_spec.specs.Contents.{key_of, place_of}
+use Rattle.isolation_spec.specs.Contents.{PlaceMap, key_of, place_of}
 use Rattle.isolation_spec.specs.declared.place.Place.{Place}
 use Rattle.run_spec.specs.Asked.{events_of}
 use Rattle.run_spec.specs.Opened.{own_key}
@@ -11,186 +12,181 @@ use Rattle.run_spec.specs.Told.{refusal_of}
 use Rattle.store_laws.specs.Laws.{IsOfSession}
 use Rattle.store_laws.specs.Own.{parts_after}
 use Rattle.workload_spec.specs.declared.command.Command.TheVariants as command
+use Rattle.workload_spec.specs.declared.reply.Said.TheVariants as said
 use Rattle.shared_store.specs.Making.{Makes, MayMake}
-use Rattle.shared_store.specs.Store.{own_of, shape_in}
+use Rattle.shared_store.specs.Open.{StaysOpen}
+use Rattle.shared_store.specs.Store.{Answers, IsSession, MakesAtMost, own_of, shape_in}
 use Rattle.shared_store.specs.Told.{written_told}
-use Rattle.shared_store.specs.Writing.{fault_answered, settled}
+use Rattle.shared_store.specs.Writing.{IsWriteReply, fault_answered, settled}
 use Rattle.shared_store.specs.declared.session.Session.{Session}
 use Rattle.shared_store.proofs.Calls.{key_handed, key_stands, may_make, one_event, own_open, own_stands, told_or_memory, unmade, written_there}
 use Rattle.shared_store.proofs.Wrote.{fits_there, settled_own, tells_write, writes_reply}
 use Rattle.shared_store.proofs.Full.{found_full}
-use Rattle.shared_store.proofs.Open.{busy_of, inserts_row, nothing_made, shut_of}
+use Rattle.shared_store.proofs.Open.{busy_of, inserts_row, shut_of}
+use Rattle.shared_store.proofs.store.Store.insert.Given.{Over}
+use Rattle.shared_store.proofs.store.Store.insert.Goals.{After-answer_of, After-new-event, In-Err, In-Ok}
 use Rattle.shared_store.proofs.store.Store.insert.Goals as goal
 
-pub returns-then-not-make_room-clause-answers : goal.returns-then-not-make_room-clause-answers
-returns-then-not-make_room-clause-answers g c =
+-- The insert of a row by one who has this open.
+abbrev inserting : OwnTransaction → ℕ → Row → CoreEvent
+inserting own table row = event.Insert (own_key table (key_of row) own) table row
+
+-- What the event is handed is of the session's open transaction.
+is_handed : (g : Over) (c : After-new-event g) → c.own_key-own.result ≡ own_key c.args.table (key_of c.args.row) (own_open c.args.session.now c.requires.busy).0
+is_handed g c =
     let s = c.args.session.now in
     let o = own_open s c.requires.busy in
-    unmade c.args.self.now s c.make_room.new.self (command.Insert c.args.table c.args.row) c.requires.session
-    (ap (refusal_of (command.Insert c.args.table c.args.row)) o.1) refl
+    key_handed c.args.table (key_of c.args.row) (own_of s) o.0 c.own_key-own.result o.1
+    (subst (λ (place : Place). option_map (own_key place.table place.key) (own_of s) ≡ Some c.own_key-own.result) c.place_in-place.ensures.place c.own_key-own.ensures)
 
-pub make-told-requires : goal.make-told-requires
-make-told-requires g c =
+-- The event is that insert.
+is_insert : (g : Over) (c : After-new-event g) → c.new-event.result ≡ inserting (own_open c.args.session.now c.requires.busy).0 c.args.table c.args.row
+is_insert g c = c.new-event.ensures ∙ ap (λ x. event.Insert x c.args.table c.args.row) (is_handed g c)
+
+-- It is one of the session.
+mine : (g : Over) (c : After-new-event g) → IsOfSession c.args.session.now.session (inserting (own_open c.args.session.now c.requires.busy).0 c.args.table c.args.row)
+mine g c =
+    let o = own_open c.args.session.now c.requires.busy in
+    inl (ap Some (own_stands c.args.self.now c.args.session.now o.0 c.requires.session o.1).0)
+
+-- The session made it.
+makes : (g : Over) (c : In-Ok g) → c.new-event.result ≡ inserting (own_open c.args.session.now c.requires.busy).0 c.args.table c.args.row
+    → IsOfSession c.args.session.now.session (inserting (own_open c.args.session.now c.requires.busy).0 c.args.table c.args.row)
+    → Makes c.args.self.now c.args.session.now.session c.args.session.now.pass.seat c.make_write.new.pass.seat c.make_write.new.pass.hands (own_of c.args.session.now)
+    (inserting (own_open c.args.session.now c.requires.busy).0 c.args.table c.args.row) c.in-Ok.told
+makes g c same own =
+    let s = c.args.session.now in
+    subst (λ (e : CoreEvent). Makes c.args.self.now s.session s.pass.seat c.make_write.new.pass.seat c.make_write.new.pass.hands (own_of s) e c.in-Ok.told) same
+    (c.in-Ok.ensures.made s.session (own_of s) c.requires.session.stands (subst (IsOfSession s.session) (sym same) own))
+
+-- It replied as a write does.
+replies : (g : Over) (c : In-Ok g)
+    → Makes c.args.self.now c.args.session.now.session c.args.session.now.pass.seat c.make_write.new.pass.seat c.make_write.new.pass.hands (own_of c.args.session.now)
+    (inserting (own_open c.args.session.now c.requires.busy).0 c.args.table c.args.row) c.in-Ok.told
+    → IsWriteReply c.in-Ok.told
+replies g c m =
     let st = c.args.self.now in
     let s = c.args.session.now in
     let o = own_open s c.requires.busy in
-    let k = own_key c.args.table (key_of c.args.row) o.0 in
-    let e : CoreEvent = event.Insert k c.args.table c.args.row in
-    let given = subst (λ (place : Place). option_map (own_key place.table place.key) (own_of s) ≡ Some c.own_key-own.result) c.place_in-place.ensures.place c.own_key-own.ensures in
-    let handed = key_handed c.args.table (key_of c.args.row) (own_of s) o.0 c.own_key-own.result o.1 given in
-    let is_event : c.new-event.result ≡ e = c.new-event.ensures ∙ ap (λ x. event.Insert x c.args.table c.args.row) handed in
-    let mine : IsOfSession s.session e = inl (ap Some (own_stands st s o.0 c.requires.session o.1).0) in
-    subst (MayMake st s.pass.seat s.pass.hands) (sym is_event)
-    (may_make st s e c.requires.session c.requires.room mine
+    writes_reply c.in-Ok.told
+    (insert_judged (shape_in st) (parts_after (shape_in st) m.makes.before) (own_key c.args.table (key_of c.args.row) o.0) c.args.table (key_of c.args.row))
+    (told_or_memory st s.session s.pass.seat c.make_write.new.pass.seat c.make_write.new.pass.hands (own_of s) (inserting o.0 c.args.table c.args.row) c.in-Ok.told m)
+
+-- The session behind it, and the answer.
+answered : (g : Over) (c : After-answer_of g)
+    → Makes c.args.self.now c.args.session.now.session c.args.session.now.pass.seat c.make_write.new.pass.seat c.make_write.new.pass.hands (own_of c.args.session.now)
+    (inserting (own_open c.args.session.now c.requires.busy).0 c.args.table c.args.row) c.in-Ok.told
+    → IsSession c.args.self.now (record { pass = c.make_write.new.pass; session = c.args.session.now.session; snapshot = c.args.session.now.snapshot; writes = c.make_write.new.writes })
+    × Answers c.args.self.now c.args.session.now
+    (record { pass = c.make_write.new.pass; session = c.args.session.now.session; snapshot = c.args.session.now.snapshot; writes = c.make_write.new.writes })
+    (command.Insert c.args.table c.args.row) (written_told c.args.table c.answer_of.result)
+answered g c m =
+    let st = c.args.self.now in
+    let s = c.args.session.now in
+    let o = own_open s c.requires.busy in
+    let asked = command.Insert c.args.table c.args.row in
+    let told = c.in-Ok.told in
+    let line = written_told c.args.table c.answer_of.result in
+    let new : Session = record { pass = c.make_write.new.pass; session = s.session; snapshot = s.snapshot; writes = c.make_write.new.writes } in
+    let wrote : c.make_write.new.writes ≡ settled s.writes (place_of c.args.table c.args.row) told = c.in-Ok.ensures.writes ∙ ap (λ p. settled s.writes p told) c.place_in-place.ensures.place in
+    one_event st s new asked (inserting o.0 c.args.table c.args.row) told line c.requires.session m refl
+    (settled_own s.session s.writes c.make_write.new.writes (place_of c.args.table c.args.row) told s.snapshot wrote)
+    (ap (refusal_of asked) o.1) (λ made. ap (λ (x : Option OwnTransaction). events_of (shape_in st) x s.session asked made) o.1)
+    (tells_write (own_of s) asked c.args.table told line refl refl (c.answer_of.ensures.tells c.args.table))
+
+-- Without memory the session is as it was.
+is_same : (g : Over) (c : In-Err g)
+    → ◌≡◌ {A = Session} (record { pass = c.make_write.new.pass; session = c.args.session.now.session; snapshot = c.args.session.now.snapshot; writes = c.make_write.new.writes }) c.args.session.now
+is_same g c =
+    let s = c.args.session.now in
+    subst (λ p. ◌≡◌ {A = Session} (record { pass = p; session = s.session; snapshot = s.snapshot; writes = c.make_write.new.writes }) s) (sym c.in-Err.ensures.none)
+    (subst (λ (w : PlaceMap ℕ). ◌≡◌ {A = Session} (record { pass = s.pass; session = s.session; snapshot = s.snapshot; writes = w }) s) (sym c.in-Err.ensures.kept) refl)
+
+pub make_write-requires-clause-may : goal.make_write-requires-clause-may
+make_write-requires-clause-may g c =
+    let st = c.args.self.now in
+    let s = c.args.session.now in
+    let o = own_open s c.requires.busy in
+    let at' = (goal.at.make_write-requires-clause-may g c).After-new-event in
+    subst (MayMake st s.pass.seat s.pass.hands) (sym (is_insert g at'))
+    (may_make st s (inserting o.0 c.args.table c.args.row) c.requires.session c.requires.room (mine g at')
     (key_stands st s o.0 c.args.table (key_of c.args.row) c.requires.session o.1)
     (λ parts holds stamp. fits_there (shape_in st) c.args.table c.args.row c.requires.fits))
 
-pub settle-requires-clause-told : goal.settle-requires-clause-told
-settle-requires-clause-told g c =
+pub make_write-requires-clause-had : goal.make_write-requires-clause-had
+make_write-requires-clause-had g c =
+    let s = c.args.session.now in
+    let o = own_open s c.requires.busy in
+    let at' = (goal.at.make_write-requires-clause-had g c).After-new-event in
+    written_there s o.0 c.args.table (key_of c.args.row) c.place_in-place.result c.own_key-own.result c.is_some-had.result o.1 (is_handed g at') c.is_some-had.ensures c.place_in-place.ensures.place
+
+pub answer_of-requires : goal.answer_of-requires
+answer_of-requires g c =
+    let at' = (goal.at.answer_of-requires g c).After-new-event in
+    let done = (goal.at.answer_of-requires g c).In-Ok in
+    replies g done (makes g done (is_insert g at') (mine g at'))
+
+pub returns-in-Ok-clause-session : goal.returns-in-Ok-clause-session
+returns-in-Ok-clause-session g c =
+    let at' = (goal.at.returns-in-Ok-clause-session g c).After-new-event in
+    let done = (goal.at.returns-in-Ok-clause-session g c).In-Ok in
+    (answered g (goal.at.returns-in-Ok-clause-session g c).After-answer_of (makes g done (is_insert g at') (mine g at'))).0
+
+pub returns-in-Ok-clause-answers : goal.returns-in-Ok-clause-answers
+returns-in-Ok-clause-answers g c =
+    let at' = (goal.at.returns-in-Ok-clause-answers g c).After-new-event in
+    let done = (goal.at.returns-in-Ok-clause-answers g c).In-Ok in
+    (answered g (goal.at.returns-in-Ok-clause-answers g c).After-answer_of (makes g done (is_insert g at') (mine g at'))).1
+
+pub returns-in-Ok-clause-writes : goal.returns-in-Ok-clause-writes
+returns-in-Ok-clause-writes g c =
     let st = c.args.self.now in
     let s = c.args.session.now in
     let o = own_open s c.requires.busy in
-    let k = own_key c.args.table (key_of c.args.row) o.0 in
-    let e : CoreEvent = event.Insert k c.args.table c.args.row in
-    let given = subst (λ (place : Place). option_map (own_key place.table place.key) (own_of s) ≡ Some c.own_key-own.result) c.place_in-place.ensures.place c.own_key-own.ensures in
-    let handed = key_handed c.args.table (key_of c.args.row) (own_of s) o.0 c.own_key-own.result o.1 given in
-    let is_event : c.new-event.result ≡ e = c.new-event.ensures ∙ ap (λ x. event.Insert x c.args.table c.args.row) handed in
-    let mine : IsOfSession s.session e = inl (ap Some (own_stands st s o.0 c.requires.session o.1).0) in
-    let m = subst (λ (e : CoreEvent). Makes st s.session s.pass.seat c.make-told.new.pass.seat c.make-told.new.pass.hands (own_of s) e c.make-told.result) is_event
-    (c.make-told.ensures s.session (own_of s) c.requires.session.stands (subst (IsOfSession s.session) (sym is_event) mine)) in
-    writes_reply c.make-told.result (insert_judged (shape_in st) (parts_after (shape_in st) m.makes.before) k c.args.table (key_of c.args.row))
-    (told_or_memory st s.session s.pass.seat c.make-told.new.pass.seat c.make-told.new.pass.hands (own_of s) e c.make-told.result m)
+    let at' = (goal.at.returns-in-Ok-clause-writes g c).After-new-event in
+    let done = (goal.at.returns-in-Ok-clause-writes g c).In-Ok in
+    let m = makes g done (is_insert g at') (mine g at') in
+    let new : Session = record { pass = c.make_write.new.pass; session = s.session; snapshot = s.snapshot; writes = c.make_write.new.writes } in
+    inserts_row st s new (own_key c.args.table (key_of c.args.row) o.0) c.args.table c.args.row c.in-Ok.told c.answer_of.result c.requires.session
+    (answered g (goal.at.returns-in-Ok-clause-writes g c).After-answer_of m).0 refl
+    (own_stands st s o.0 c.requires.session o.1).0 m.makes (busy_of new (shut_of s c.requires.busy)) (replies g done m) c.answer_of.ensures.accepted
 
-pub returns-clause-session : goal.returns-clause-session
-returns-clause-session g c =
-    let st = c.args.self.now in
-    let s = c.args.session.now in
-    let o = own_open s c.requires.busy in
-    let k = own_key c.args.table (key_of c.args.row) o.0 in
-    let e : CoreEvent = event.Insert k c.args.table c.args.row in
-    let asked = command.Insert c.args.table c.args.row in
-    let told = c.make-told.result in
-    let line = written_told c.args.table c.settle.result in
-    let given = subst (λ (place : Place). option_map (own_key place.table place.key) (own_of s) ≡ Some c.own_key-own.result) c.place_in-place.ensures.place c.own_key-own.ensures in
-    let handed = key_handed c.args.table (key_of c.args.row) (own_of s) o.0 c.own_key-own.result o.1 given in
-    let is_event : c.new-event.result ≡ e = c.new-event.ensures ∙ ap (λ x. event.Insert x c.args.table c.args.row) handed in
-    let mine : IsOfSession s.session e = inl (ap Some (own_stands st s o.0 c.requires.session o.1).0) in
-    let m = subst (λ (e : CoreEvent). Makes st s.session s.pass.seat c.make-told.new.pass.seat c.make-told.new.pass.hands (own_of s) e told) is_event
-    (c.make-told.ensures s.session (own_of s) c.requires.session.stands (subst (IsOfSession s.session) (sym is_event) mine)) in
-    let new : Session = record { pass = c.make-told.new.pass; session = s.session; snapshot = s.snapshot; writes = c.settle.new.self } in
-    let place = c.place_in-place.ensures.place in
-    let wrote : c.settle.new.self ≡ settled s.writes (place_of c.args.table c.args.row) told =
-    c.settle.ensures.writes s.writes (written_there s o.0 c.args.table (key_of c.args.row) c.place_in-place.result c.own_key-own.result c.is_some-had.result o.1 handed c.is_some-had.ensures place) (c.make_room.ensures.made c.if-not-make_room.false)
-    ∙ ap (λ p. settled s.writes p told) place in
-    (one_event st s new asked e told line c.requires.session m refl
-    (settled_own s.session s.writes c.settle.new.self (place_of c.args.table c.args.row) told s.snapshot wrote)
-    (ap (refusal_of asked) o.1) (λ made. ap (λ (x : Option OwnTransaction). events_of (shape_in st) x s.session asked made) o.1)
-    (tells_write (own_of s) asked c.args.table told line refl refl (c.settle.ensures.tells c.args.table))).0
-
-pub returns-clause-answers : goal.returns-clause-answers
-returns-clause-answers g c =
-    let st = c.args.self.now in
-    let s = c.args.session.now in
-    let o = own_open s c.requires.busy in
-    let k = own_key c.args.table (key_of c.args.row) o.0 in
-    let e : CoreEvent = event.Insert k c.args.table c.args.row in
-    let asked = command.Insert c.args.table c.args.row in
-    let told = c.make-told.result in
-    let line = written_told c.args.table c.settle.result in
-    let given = subst (λ (place : Place). option_map (own_key place.table place.key) (own_of s) ≡ Some c.own_key-own.result) c.place_in-place.ensures.place c.own_key-own.ensures in
-    let handed = key_handed c.args.table (key_of c.args.row) (own_of s) o.0 c.own_key-own.result o.1 given in
-    let is_event : c.new-event.result ≡ e = c.new-event.ensures ∙ ap (λ x. event.Insert x c.args.table c.args.row) handed in
-    let mine : IsOfSession s.session e = inl (ap Some (own_stands st s o.0 c.requires.session o.1).0) in
-    let m = subst (λ (e : CoreEvent). Makes st s.session s.pass.seat c.make-told.new.pass.seat c.make-told.new.pass.hands (own_of s) e told) is_event
-    (c.make-told.ensures s.session (own_of s) c.requires.session.stands (subst (IsOfSession s.session) (sym is_event) mine)) in
-    let new : Session = record { pass = c.make-told.new.pass; session = s.session; snapshot = s.snapshot; writes = c.settle.new.self } in
-    let place = c.place_in-place.ensures.place in
-    let wrote : c.settle.new.self ≡ settled s.writes (place_of c.args.table c.args.row) told =
-    c.settle.ensures.writes s.writes (written_there s o.0 c.args.table (key_of c.args.row) c.place_in-place.result c.own_key-own.result c.is_some-had.result o.1 handed c.is_some-had.ensures place) (c.make_room.ensures.made c.if-not-make_room.false)
-    ∙ ap (λ p. settled s.writes p told) place in
-    (one_event st s new asked e told line c.requires.session m refl
-    (settled_own s.session s.writes c.settle.new.self (place_of c.args.table c.args.row) told s.snapshot wrote)
-    (ap (refusal_of asked) o.1) (λ made. ap (λ (x : Option OwnTransaction). events_of (shape_in st) x s.session asked made) o.1)
-    (tells_write (own_of s) asked c.args.table told line refl refl (c.settle.ensures.tells c.args.table))).1
-
-pub returns-clause-full : goal.returns-clause-full
-returns-clause-full g c inserts is =
-    let st = c.args.self.now in
-    let s = c.args.session.now in
-    let o = own_open s c.requires.busy in
-    let k = own_key c.args.table (key_of c.args.row) o.0 in
-    let e : CoreEvent = event.Insert k c.args.table c.args.row in
-    let asked = command.Insert c.args.table c.args.row in
-    let told = c.make-told.result in
-    let line = written_told c.args.table c.settle.result in
-    let given = subst (λ (place : Place). option_map (own_key place.table place.key) (own_of s) ≡ Some c.own_key-own.result) c.place_in-place.ensures.place c.own_key-own.ensures in
-    let handed = key_handed c.args.table (key_of c.args.row) (own_of s) o.0 c.own_key-own.result o.1 given in
-    let is_event : c.new-event.result ≡ e = c.new-event.ensures ∙ ap (λ x. event.Insert x c.args.table c.args.row) handed in
-    let mine : IsOfSession s.session e = inl (ap Some (own_stands st s o.0 c.requires.session o.1).0) in
-    let m = subst (λ (e : CoreEvent). Makes st s.session s.pass.seat c.make-told.new.pass.seat c.make-told.new.pass.hands (own_of s) e told) is_event
-    (c.make-told.ensures s.session (own_of s) c.requires.session.stands (subst (IsOfSession s.session) (sym is_event) mine)) in
-    let new : Session = record { pass = c.make-told.new.pass; session = s.session; snapshot = s.snapshot; writes = c.settle.new.self } in
-    let place = c.place_in-place.ensures.place in
-    let wrote : c.settle.new.self ≡ settled s.writes (place_of c.args.table c.args.row) told =
-    c.settle.ensures.writes s.writes (written_there s o.0 c.args.table (key_of c.args.row) c.place_in-place.result c.own_key-own.result c.is_some-had.result o.1 handed c.is_some-had.ensures place) (c.make_room.ensures.made c.if-not-make_room.false)
-    ∙ ap (λ p. settled s.writes p told) place in
-    found_full st s new k c.args.table c.args.row told inserts c.place_in-place.ensures.measures
-    (one_event st s new asked e told line c.requires.session m refl
-    (settled_own s.session s.writes c.settle.new.self (place_of c.args.table c.args.row) told s.snapshot wrote)
-    (ap (refusal_of asked) o.1) (λ made. ap (λ (x : Option OwnTransaction). events_of (shape_in st) x s.session asked made) o.1)
-    (tells_write (own_of s) asked c.args.table told line refl refl (c.settle.ensures.tells c.args.table))).0
-    m (sym c.settle.ensures.fault ∙ ap fault_answered is)
-
-pub returns-then-not-make_room-clause-writes : goal.returns-then-not-make_room-clause-writes
-returns-then-not-make_room-clause-writes g c = nothing_made c.args.self.now c.args.session.now c.make_room.new.self
-
-pub returns-clause-writes : goal.returns-clause-writes
-returns-clause-writes g c =
-    let st = c.args.self.now in
-    let s = c.args.session.now in
-    let o = own_open s c.requires.busy in
-    let k = own_key c.args.table (key_of c.args.row) o.0 in
-    let e : CoreEvent = event.Insert k c.args.table c.args.row in
-    let asked = command.Insert c.args.table c.args.row in
-    let told = c.make-told.result in
-    let line = written_told c.args.table c.settle.result in
-    let given = subst (λ (place : Place). option_map (own_key place.table place.key) (own_of s) ≡ Some c.own_key-own.result) c.place_in-place.ensures.place c.own_key-own.ensures in
-    let handed = key_handed c.args.table (key_of c.args.row) (own_of s) o.0 c.own_key-own.result o.1 given in
-    let is_event : c.new-event.result ≡ e = c.new-event.ensures ∙ ap (λ x. event.Insert x c.args.table c.args.row) handed in
-    let mine : IsOfSession s.session e = inl (ap Some (own_stands st s o.0 c.requires.session o.1).0) in
-    let m = subst (λ (e : CoreEvent). Makes st s.session s.pass.seat c.make-told.new.pass.seat c.make-told.new.pass.hands (own_of s) e told) is_event
-    (c.make-told.ensures s.session (own_of s) c.requires.session.stands (subst (IsOfSession s.session) (sym is_event) mine)) in
-    let new : Session = record { pass = c.make-told.new.pass; session = s.session; snapshot = s.snapshot; writes = c.settle.new.self } in
-    let place = c.place_in-place.ensures.place in
-    let wrote : c.settle.new.self ≡ settled s.writes (place_of c.args.table c.args.row) told =
-    c.settle.ensures.writes s.writes (written_there s o.0 c.args.table (key_of c.args.row) c.place_in-place.result c.own_key-own.result c.is_some-had.result o.1 handed c.is_some-had.ensures place) (c.make_room.ensures.made c.if-not-make_room.false)
-    ∙ ap (λ p. settled s.writes p told) place in
-    inserts_row st s new k c.args.table c.args.row told c.settle.result c.requires.session
-    (one_event st s new asked e told line c.requires.session m refl
-    (settled_own s.session s.writes c.settle.new.self (place_of c.args.table c.args.row) told s.snapshot wrote)
-    (ap (refusal_of asked) o.1) (λ made. ap (λ (x : Option OwnTransaction). events_of (shape_in st) x s.session asked made) o.1)
-    (tells_write (own_of s) asked c.args.table told line refl refl (c.settle.ensures.tells c.args.table))).0
-    refl (own_stands st s o.0 c.requires.session o.1).0 m.makes
-    (busy_of new (shut_of s c.requires.busy))
-    (writes_reply told (insert_judged (shape_in st) (parts_after (shape_in st) m.makes.before) k c.args.table (key_of c.args.row))
-    (told_or_memory st s.session s.pass.seat c.make-told.new.pass.seat c.make-told.new.pass.hands (own_of s) e told m))
-    c.settle.ensures.accepted
-
-pub returns-clause-few : goal.returns-clause-few
-returns-clause-few g c =
-    let st = c.args.self.now in
-    let s = c.args.session.now in
-    let o = own_open s c.requires.busy in
-    let k = own_key c.args.table (key_of c.args.row) o.0 in
-    let e : CoreEvent = event.Insert k c.args.table c.args.row in
-    let asked = command.Insert c.args.table c.args.row in
-    let told = c.make-told.result in
-    let line = written_told c.args.table c.settle.result in
-    let given = subst (λ (place : Place). option_map (own_key place.table place.key) (own_of s) ≡ Some c.own_key-own.result) c.place_in-place.ensures.place c.own_key-own.ensures in
-    let handed = key_handed c.args.table (key_of c.args.row) (own_of s) o.0 c.own_key-own.result o.1 given in
-    let is_event : c.new-event.result ≡ e = c.new-event.ensures ∙ ap (λ x. event.Insert x c.args.table c.args.row) handed in
-    let mine : IsOfSession s.session e = inl (ap Some (own_stands st s o.0 c.requires.session o.1).0) in
-    let m = subst (λ (e : CoreEvent). Makes st s.session s.pass.seat c.make-told.new.pass.seat c.make-told.new.pass.hands (own_of s) e told) is_event
-    (c.make-told.ensures s.session (own_of s) c.requires.session.stands (subst (IsOfSession s.session) (sym is_event) mine)) in
-    let count = m.count in
+pub returns-in-Ok-clause-few : goal.returns-in-Ok-clause-few
+returns-in-Ok-clause-few g c =
+    let at' = (goal.at.returns-in-Ok-clause-few g c).After-new-event in
+    let count = (makes g (goal.at.returns-in-Ok-clause-few g c).In-Ok (is_insert g at') (mine g at')).count in
     omega (arith, count)
+
+pub returns-in-Ok-clause-full : goal.returns-in-Ok-clause-full
+returns-in-Ok-clause-full g c inserts is =
+    let st = c.args.self.now in
+    let s = c.args.session.now in
+    let o = own_open s c.requires.busy in
+    let at' = (goal.at.returns-in-Ok-clause-full g c).After-new-event in
+    let m = makes g (goal.at.returns-in-Ok-clause-full g c).In-Ok (is_insert g at') (mine g at') in
+    let new : Session = record { pass = c.make_write.new.pass; session = s.session; snapshot = s.snapshot; writes = c.make_write.new.writes } in
+    found_full st s new (own_key c.args.table (key_of c.args.row) o.0) c.args.table c.args.row c.in-Ok.told inserts c.place_in-place.ensures.measures
+    (answered g (goal.at.returns-in-Ok-clause-full g c).After-answer_of m).0 m (sym c.answer_of.ensures.fault ∙ ap fault_answered is)
+
+pub returns-in-Err-clause-session : goal.returns-in-Err-clause-session
+returns-in-Err-clause-session g c = subst (IsSession c.args.self.now) (sym (is_same g (goal.at.returns-in-Err-clause-session g c).In-Err)) c.requires.session
+
+pub returns-in-Err-clause-answers : goal.returns-in-Err-clause-answers
+returns-in-Err-clause-answers g c =
+    let st = c.args.self.now in
+    let s = c.args.session.now in
+    let o = own_open s c.requires.busy in
+    let asked = command.Insert c.args.table c.args.row in
+    subst (λ (later : Session). Answers st s later asked said.Memory) (sym (is_same g (goal.at.returns-in-Err-clause-answers g c).In-Err))
+    (unmade st s s.writes asked c.requires.session (ap (refusal_of asked) o.1) refl)
+
+pub returns-in-Err-clause-writes : goal.returns-in-Err-clause-writes
+returns-in-Err-clause-writes g c =
+    let st = c.args.self.now in
+    let s = c.args.session.now in
+    subst (λ (later : Session). StaysOpen st s later) (sym (is_same g (goal.at.returns-in-Err-clause-writes g c).In-Err)) (λ commits own open'. open')
+
+pub returns-in-Err-clause-few : goal.returns-in-Err-clause-few
+returns-in-Err-clause-few g c =
+    let s = c.args.session.now in
+    subst (λ (later : Session). MakesAtMost 1 s later) (sym (is_same g (goal.at.returns-in-Err-clause-few g c).In-Err)) (omega arith)

@@ -5,6 +5,7 @@ use Rattle.run_spec.specs.Asked.{at_all_blocks}
 use Rattle.shared_store.specs.Observing.{HaveTurned, Observes, observing}
 use Rattle.shared_store.specs.Store.{shape_in}
 use Rattle.shared_store.proofs.Observed.{observes_whole}
+use Rattle.shared_store.proofs.Stays.{swept_leaves, tables_ask}
 use Rattle.shared_store.proofs.Swept.{at_tables, sweeps_nothing, sweeps_table}
 use Rattle.shared_store.proofs.store.Store.observe.Goals as goal
 
@@ -47,3 +48,9 @@ returns-clause-few g c =
     let tables = ap (λ (ts : List TableDecl). length ts) c.tables.ensures.tables in
     let end' = c.loop-table.auto.table-end in
     omega (arith, made, few, tables, end')
+
+pub returns-clause-leaves : goal.returns-clause-leaves
+returns-clause-leaves g c =
+    let st = c.args.self.now in
+    swept_leaves st (at_all_blocks (shape_in st) observing) (HaveTurned c.loop-table.turned) c.args.session.now c.loop-table.session (at_tables (shape_in st) observing c.loop-table.table)
+    c.loop-table.invariant.2 (tables_ask (shape_in st) observing (λ table block. refl) c.loop-table.table)

@@ -1,10 +1,11 @@
-use Rattle.std.proofs.Common.{◌≡◌, List, [], ◌∷◌, length, ap, subst, ◌∙◌, arith}
+use Rattle.std.proofs.Common.{◌≡◌, List, [], ◌∷◌, length, refl, ap, subst, ◌∙◌, arith}
 use Rattle.cell_model.specs.declared.table.TableDecl.{TableDecl}
 use Rattle.event_spec.specs.declared.event.Event.TheVariants as event
 use Rattle.event_spec.specs.Parts.{Shape}
 use Rattle.shared_store.specs.Pruning.{HaveDropped, Prunes, asked_by, pruning}
 use Rattle.shared_store.specs.Store.{shape_in}
 use Rattle.shared_store.proofs.Pruned.{prunes_begin, prunes_whole}
+use Rattle.shared_store.proofs.Stays.{swept_leaves, tables_ask}
 use Rattle.shared_store.proofs.Swept.{at_tables, sweeps_table}
 use Rattle.shared_store.proofs.store.Store.prune.Goals as goal
 
@@ -56,3 +57,11 @@ returns-clause-few g c =
     let tables = ap (λ (ts : List TableDecl). length ts) c.tables.ensures.tables in
     let end' = c.loop-table.auto.table-end in
     omega (arith, made, few, tables, end')
+
+pub returns-clause-leaves : goal.returns-clause-leaves
+returns-clause-leaves g c =
+    let st = c.args.self.now in
+    let oldest = c.oldest-oldest.result in
+    swept_leaves st (asked_by (shape_in st) oldest) (HaveDropped oldest c.loop-table.dropped) c.args.session.now c.loop-table.session
+    (event.Oldest ∷ at_tables (shape_in st) (pruning oldest) c.loop-table.table)
+    c.loop-table.invariant.prunes (refl, tables_ask (shape_in st) (pruning oldest) (λ table block. refl) c.loop-table.table)

@@ -11,8 +11,9 @@ use Rattle.shared_store.specs.Making.{Makes}
 use Rattle.shared_store.specs.Reading.{ReadsBlock}
 use Rattle.shared_store.specs.Store.{own_of}
 use Rattle.shared_store.specs.declared.session.Session.{Session}
-use Rattle.shared_store.proofs.Calls.{own_stands}
+use Rattle.shared_store.proofs.Calls.{own_open, own_stands}
 use Rattle.shared_store.proofs.BlockReads.{read_done}
+use Rattle.shared_store.proofs.Stays.{read_leaves}
 use Rattle.shared_store.proofs.store.Store.read.Goals as goal
 
 pub returns-in-Rows-clause-reads : goal.returns-in-Rows-clause-reads
@@ -59,3 +60,21 @@ returns-in-Memory-clause-reads g c own is =
     (c.make_counted.ensures.made s.session (own_of s) c.requires.session.stands (subst (IsOfSession s.session) (sym is_event) mine)) in
     subst (λ (r : CoreReply). ReadsBlock st s new own c.args.table c.args.block r) c.in-Memory.is
     (read_done st s new own c.args.table c.args.block c.make_counted.result c.requires.session c.requires.block m refl refl)
+
+pub returns-in-Rows-clause-leaves : goal.returns-in-Rows-clause-leaves
+returns-in-Rows-clause-leaves g c =
+    let s = c.args.session.now in
+    let o = own_open s c.requires.busy in
+    read_leaves c.args.self.now s _ o.0 c.args.table c.args.block _ (returns-in-Rows-clause-reads g c o.0 o.1)
+
+pub returns-in-Shared-clause-leaves : goal.returns-in-Shared-clause-leaves
+returns-in-Shared-clause-leaves g c =
+    let s = c.args.session.now in
+    let o = own_open s c.requires.busy in
+    read_leaves c.args.self.now s _ o.0 c.args.table c.args.block _ (returns-in-Shared-clause-reads g c o.0 o.1)
+
+pub returns-in-Memory-clause-leaves : goal.returns-in-Memory-clause-leaves
+returns-in-Memory-clause-leaves g c =
+    let s = c.args.session.now in
+    let o = own_open s c.requires.busy in
+    read_leaves c.args.self.now s _ o.0 c.args.table c.args.block _ (returns-in-Memory-clause-reads g c o.0 o.1)

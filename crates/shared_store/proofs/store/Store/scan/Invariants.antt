@@ -1,4 +1,10 @@
+use Rattle.std.proofs.Common.{◌≡◌, Some}
+use Rattle.event_spec.specs.declared.own.OwnTransaction.{OwnTransaction}
+use Rattle.shared_store.specs.Store.{own_of}
+use Rattle.shared_store.proofs.Scanned.{ScansBy}
 use Rattle.shared_store.proofs.store.Store.scan.Given as goal
 
-abbrev pub ghosts-scan_by : goal.ghosts-scan_by
-ghosts-scan_by g a = record { name = a.blank.name; parts = a.blank.parts }
+abbrev pub invariant-loop-block : goal.invariant-loop-block
+invariant-loop-block g l =
+    (own : OwnTransaction) → own_of l.fn.session ≡ Some own
+    → ScansBy l.fn.self l.fn.session l.session own l.fn.table l.block l.by_place.entries l.fn.steps l.steps

@@ -1,20 +1,23 @@
-use Rattle.std.proofs.Common.{refl, sym, subst}
+use Rattle.std.proofs.Common.{arith, refl, sym, subst}
 use mathlib.Core.Logic.{inr}
 use Rattle.block_spec.specs.Bodies.{seal_fault}
 use Rattle.event_spec.specs.declared.event.Event.TheVariants as event
 use Rattle.event_spec.specs.Effects.{CoreEvent}
 use Rattle.event_spec.specs.Parts.{body_at, is_head}
 use Rattle.event_spec.specs.Replies.{CoreReply}
+use Rattle.run_spec.specs.Handed.{own_in}
+use Rattle.run_spec.specs.Opened.{own_after}
 use Rattle.run_spec.specs.Told.{cause_told}
 use Rattle.store_laws.specs.Laws.{IsOfSession, TellsLine}
 use Rattle.store_laws.specs.Own.{parts_after}
 use Rattle.workload_spec.specs.declared.command.Command.TheVariants as command
 use Rattle.workload_spec.specs.declared.reply.Said.TheVariants as said
 use Rattle.shared_store.specs.Making.{Makes, MayMake}
-use Rattle.shared_store.specs.Store.{own_of, shape_in}
+use Rattle.shared_store.specs.Store.{own_of, seen, shape_in}
 use Rattle.shared_store.specs.declared.session.Session.{Session}
 use Rattle.shared_store.proofs.Calls.{may_make, one_event, told_always}
 use Rattle.shared_store.proofs.Freezes.{block_there, seals_tell}
+use Rattle.shared_store.proofs.Stays.{call_few, call_leaves, seal_asks}
 use Rattle.shared_store.proofs.store.Store.seal.Goals as goal
 
 pub make-requires : goal.make-requires
@@ -93,3 +96,29 @@ returns-in-NotSealed-clause-answers g c =
     let new : Session = record { pass = c.make.new.pass; session = s.session; snapshot = s.snapshot; writes = s.writes } in
     (one_event st s new asked e c.make.result line c.requires.session m refl refl refl (λ made. refl)
     (subst (λ (r : CoreReply). TellsLine (own_of s) asked r line) (sym c.in-NotSealed.is) refl)).1
+
+pub returns-in-Sealed-clause-leaves : goal.returns-in-Sealed-clause-leaves
+returns-in-Sealed-clause-leaves g c =
+    let st = c.args.self.now in
+    let s = c.args.session.now in
+    call_leaves st s _ (command.Seal c.args.table c.args.block) _ c.requires.session (returns-in-Sealed-clause-session g c) refl (returns-in-Sealed-clause-answers g c)
+    (λ made. seal_asks (shape_in st) (own_after (own_in (shape_in st) s.session (seen s))) s.session made c.args.table c.args.block)
+
+pub returns-in-Sealed-clause-few : goal.returns-in-Sealed-clause-few
+returns-in-Sealed-clause-few g c =
+    let s = c.args.session.now in
+    let new : Session = record { pass = c.make.new.pass; session = s.session; snapshot = s.snapshot; writes = s.writes } in
+    call_few c.args.self.now s new (command.Seal c.args.table c.args.block) _ 1 (returns-in-Sealed-clause-answers g c) (λ made. omega arith)
+
+pub returns-in-NotSealed-clause-leaves : goal.returns-in-NotSealed-clause-leaves
+returns-in-NotSealed-clause-leaves g c =
+    let st = c.args.self.now in
+    let s = c.args.session.now in
+    call_leaves st s _ (command.Seal c.args.table c.args.block) _ c.requires.session (returns-in-NotSealed-clause-session g c) refl (returns-in-NotSealed-clause-answers g c)
+    (λ made. seal_asks (shape_in st) (own_after (own_in (shape_in st) s.session (seen s))) s.session made c.args.table c.args.block)
+
+pub returns-in-NotSealed-clause-few : goal.returns-in-NotSealed-clause-few
+returns-in-NotSealed-clause-few g c =
+    let s = c.args.session.now in
+    let new : Session = record { pass = c.make.new.pass; session = s.session; snapshot = s.snapshot; writes = s.writes } in
+    call_few c.args.self.now s new (command.Seal c.args.table c.args.block) _ 1 (returns-in-NotSealed-clause-answers g c) (λ made. omega arith)

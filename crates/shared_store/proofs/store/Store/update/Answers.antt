@@ -5,11 +5,12 @@ use Rattle.isolation_spec.specs.Contents.{key_of, place_of}
 use Rattle.isolation_spec.specs.declared.place.Place.{Place}
 use Rattle.run_spec.specs.Opened.{own_key}
 use Rattle.workload_spec.specs.declared.command.Command.TheVariants as command
-use Rattle.shared_store.specs.Changing.{IsChangeBy, IsChangeOf}
+use Rattle.shared_store.specs.Changing.{IsChangeBy, IsChangeOf, IsChangeTo}
+use Rattle.shared_store.specs.Open.{WritesRow}
 use Rattle.shared_store.specs.Store.{Answers, own_of, shape_in}
 use Rattle.shared_store.specs.Told.{written_told}
 use Rattle.shared_store.proofs.Calls.{key_handed, own_open}
-use Rattle.shared_store.proofs.Changed.{update_by, update_changes}
+use Rattle.shared_store.proofs.Changed.{update_by, update_changes, update_to}
 use Rattle.shared_store.proofs.Wrote.{fits_there}
 use Rattle.shared_store.proofs.store.Store.update.Goals as goal
 
@@ -42,3 +43,18 @@ returns-clause-answers g c =
     (update_by st s o.0 c.requires.session o.1 c.args.table c.args.row)) in
     subst (λ (place : Place). Answers st s c.change_row.new.session asked (written_told place.table c.change_row.result)) c.place_in-place.ensures.place
     (c.change_row.ensures.answers asked by)
+
+pub returns-clause-writes : goal.returns-clause-writes
+returns-clause-writes g c =
+    let st = c.args.self.now in
+    let s = c.args.session.now in
+    let o = own_open s c.requires.busy in
+    let given = subst (λ (place : Place). option_map (own_key place.table place.key) (own_of s) ≡ Some c.own_key-own.result) c.place_in-place.ensures.place c.own_key-own.ensures in
+    let handed = key_handed c.args.table (key_of c.args.row) (own_of s) o.0 c.own_key-own.result o.1 given in
+    let is_event : c.new-event.result ≡ event.Update (own_key c.args.table (key_of c.args.row) o.0) c.args.table c.args.row =
+    c.new-event.ensures ∙ ap (λ x. event.Update x c.args.table c.args.row) handed in
+    let to = subst (λ (place : Place). IsChangeTo s.session place (Some c.args.row) c.new-event.result) (sym c.place_in-place.ensures.place)
+    (subst (λ (e : CoreEvent). IsChangeTo s.session (place_of c.args.table c.args.row) (Some c.args.row) e) (sym is_event)
+    (update_to st s o.0 c.requires.session o.1 c.args.table c.args.row)) in
+    subst (λ (place : Place). WritesRow st s c.change_row.new.session place (Some c.args.row) c.change_row.result) c.place_in-place.ensures.place
+    (c.change_row.ensures.writes (Some c.args.row) to)

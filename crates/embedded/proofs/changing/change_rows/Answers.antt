@@ -1,0 +1,84 @@
+use Rattle.std.proofs.Common.{None, Some, [], sym, subst, ◌∙◌}
+use Rattle.std.specs.BTreeMap.{insert_entry}
+use Rattle.std.specs.Int.{w64}
+use Rattle.std.proofs.lemmas.Int.{to_z-of_z}
+use Rattle.isolation_spec.specs.Contents.{place_cmp, place_of}
+use Rattle.shared_store.specs.Open.{Commits, commits_seen}
+use Rattle.embedded.proofs.Changes.{all_put, finds_changes, inserted, is_numbered}
+use Rattle.embedded.proofs.Handing.{begins, opens}
+use Rattle.embedded.proofs.changing.change_rows.Goals as goal
+
+pub insert-requires-2-clause-busy : goal.insert-requires-2-clause-busy
+insert-requires-2-clause-busy g c =
+    let st = c.args.store.now in
+    let commits = commits_seen st c.begin.new.session in
+    let begun = opens st c.args.one.now c.begin.new.session c.begin.result c.unwrap-began.result c.unwrap-began.ensures c.begin.ensures.opens in
+    (c.in_ok-insert.ensures.writes commits [] begun.is_open).busy
+
+pub update-requires-clause-busy : goal.update-requires-clause-busy
+update-requires-clause-busy g c =
+    let st = c.args.store.now in
+    let commits = commits_seen st c.begin.new.session in
+    let begun = opens st c.args.one.now c.begin.new.session c.begin.result c.unwrap-began.result c.unwrap-began.ensures c.begin.ensures.opens in
+    (c.in_ok-insert-2.ensures.writes commits _ (c.in_ok-insert.ensures.writes commits [] begun.is_open)).busy
+
+pub delete-requires-clause-busy : goal.delete-requires-clause-busy
+delete-requires-clause-busy g c =
+    let st = c.args.store.now in
+    let commits = commits_seen st c.begin.new.session in
+    let begun = opens st c.args.one.now c.begin.new.session c.begin.result c.unwrap-began.result c.unwrap-began.ensures c.begin.ensures.opens in
+    (c.in_ok-update.ensures.writes commits _ (c.in_ok-insert-2.ensures.writes commits _ (c.in_ok-insert.ensures.writes commits [] begun.is_open))).busy
+
+pub scan_uncounted-requires-clause-busy : goal.scan_uncounted-requires-clause-busy
+scan_uncounted-requires-clause-busy g c =
+    let st = c.args.store.now in
+    let commits = commits_seen st c.begin.new.session in
+    let begun = opens st c.args.one.now c.begin.new.session c.begin.result c.unwrap-began.result c.unwrap-began.ensures c.begin.ensures.opens in
+    let put = all_put st c.begin.new.session c.insert.new.session c.insert-2.new.session c.update.new.session c.delete.new.session c.args.table _ c.args.first c.args.second c.args.changed commits
+    c.requires.kept (c.requires.dropped ∙ sym (to_z-of_z w64 c.args.key c.ranges.key)) begun.is_open
+    c.in_ok-insert.ensures.writes c.in_ok-insert-2.ensures.writes c.in_ok-update.ensures.writes c.in_ok-delete.ensures.writes in
+    put.busy
+
+pub commit-requires-clause-busy : goal.commit-requires-clause-busy
+commit-requires-clause-busy g c =
+    let st = c.args.store.now in
+    let commits = commits_seen st c.begin.new.session in
+    let begun = opens st c.args.one.now c.begin.new.session c.begin.result c.unwrap-began.result c.unwrap-began.ensures c.begin.ensures.opens in
+    let put = all_put st c.begin.new.session c.insert.new.session c.insert-2.new.session c.update.new.session c.delete.new.session c.args.table _ c.args.first c.args.second c.args.changed commits
+    c.requires.kept (c.requires.dropped ∙ sym (to_z-of_z w64 c.args.key c.ranges.key)) begun.is_open
+    c.in_ok-insert.ensures.writes c.in_ok-insert-2.ensures.writes c.in_ok-update.ensures.writes c.in_ok-delete.ensures.writes in
+    (c.in_ok-own.ensures.finds commits _ put).is_open.busy
+
+pub unwrap-committed-requires : goal.unwrap-committed-requires
+unwrap-committed-requires g c =
+    let st = c.args.store.now in
+    let commits = commits_seen st c.begin.new.session in
+    let begun = opens st c.args.one.now c.begin.new.session c.begin.result c.unwrap-began.result c.unwrap-began.ensures c.begin.ensures.opens in
+    let put = all_put st c.begin.new.session c.insert.new.session c.insert-2.new.session c.update.new.session c.delete.new.session c.args.table _ c.args.first c.args.second c.args.changed commits
+    c.requires.kept (c.requires.dropped ∙ sym (to_z-of_z w64 c.args.key c.ranges.key)) begun.is_open
+    c.in_ok-insert.ensures.writes c.in_ok-insert-2.ensures.writes c.in_ok-update.ensures.writes c.in_ok-delete.ensures.writes in
+    let kept = place_of c.args.table c.args.first in
+    let dropped = place_of c.args.table c.args.second in
+    is_numbered st c.scan_uncounted.new.session c.commit.new.session commits (insert_entry place_cmp (inserted kept dropped c.args.first c.args.second) kept (Some c.args.changed)) dropped None c.commit.result
+    (c.in_ok-own.ensures.finds commits _ put).is_open c.commit.ensures.commits
+
+pub unwrap-sees-requires : goal.unwrap-sees-requires
+unwrap-sees-requires g c =
+    begins c.args.store.now c.meet.new.b c.begin-2.new.session c.begin-2.result (c.meet.ensures.b.opened ∙ c.requires.rests_two) c.begin-2.ensures.opens
+
+pub returns-clause-finds : goal.returns-clause-finds
+returns-clause-finds g c =
+    let st = c.args.store.now in
+    let commits = commits_seen st c.begin.new.session in
+    let begun = opens st c.args.one.now c.begin.new.session c.begin.result c.unwrap-began.result c.unwrap-began.ensures c.begin.ensures.opens in
+    let put = all_put st c.begin.new.session c.insert.new.session c.insert-2.new.session c.update.new.session c.delete.new.session c.args.table _ c.args.first c.args.second c.args.changed commits
+    c.requires.kept (c.requires.dropped ∙ sym (to_z-of_z w64 c.args.key c.ranges.key)) begun.is_open
+    c.in_ok-insert.ensures.writes c.in_ok-insert-2.ensures.writes c.in_ok-update.ensures.writes c.in_ok-delete.ensures.writes in
+    finds_changes st c.args.one.now c.begin.new.session c.scan_uncounted.new.session c.commit.new.session c.args.two.now c.meet.new.b c.begin-2.new.session c.scan_uncounted-2.new.session
+    c.args.table c.args.key c.args.first c.args.second c.args.changed c.in_ok-own.own c.in_ok-other.other c.unwrap-began.result c.unwrap-committed.result c.unwrap-sees.result
+    c.begin.ensures.session c.requires.kept c.requires.dropped c.requires.apart begun
+    (c.in_ok-own.ensures.finds commits _ put)
+    (subst (Commits st c.scan_uncounted.new.session c.commit.new.session) c.unwrap-committed.ensures c.commit.ensures.commits)
+    c.meet.ensures.commits_a c.meet.ensures.b.sees
+    (opens st c.meet.new.b c.begin-2.new.session c.begin-2.result c.unwrap-sees.result c.unwrap-sees.ensures c.begin-2.ensures.opens)
+    c.in_ok-other.ensures.finds

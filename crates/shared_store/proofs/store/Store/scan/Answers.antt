@@ -1,0 +1,158 @@
+use Rattle.std.proofs.Common.{◌≡◌, Option, is_some, sym, ap, subst, ◌∙◌, arith}
+use Rattle.event_spec.specs.declared.own.OwnTransaction.{OwnTransaction}
+use Rattle.event_spec.specs.Parts.{Shape, blocks_of}
+use Rattle.isolation_spec.specs.Contents.{State}
+use Rattle.workload_spec.specs.declared.command.Command.TheVariants.{Scan}
+use Rattle.workload_spec.specs.declared.reply.Said.{Said}
+use Rattle.shared_store.specs.Scanning.{Scans}
+use Rattle.shared_store.specs.Store.{Answers, shape_in}
+use Rattle.shared_store.proofs.Calls.{own_open}
+use Rattle.shared_store.proofs.Scanned.{ScansBy, scan_ends, scan_unread, scans_count, steps_begin, steps_break, steps_end, steps_go_on, unscanned}
+use Rattle.shared_store.proofs.Stays.{scan_finds, scan_unread_finds}
+use Rattle.shared_store.proofs.store.Store.scan.Goals as goal
+
+pub loop-block-init : goal.loop-block-init
+loop-block-init g c own is =
+    subst (λ (state : State). ScansBy c.args.self.now c.args.session.now c.args.session.now own c.args.table 0 state c.args.steps.now c.args.steps.now) (sym c.new-by_place.ensures.empty)
+    (steps_begin c.args.self.now own c.args.table c.args.session.now c.args.steps.now c.requires.session)
+
+pub read_into-requires-clause-session : goal.read_into-requires-clause-session
+read_into-requires-clause-session g c =
+    let o = own_open c.args.session.now c.requires.busy in
+    (c.loop-block.invariant o.0 o.1).scans.went.session
+
+pub read_into-requires-clause-room : goal.read_into-requires-clause-room
+read_into-requires-clause-room g c =
+    let o = own_open c.args.session.now c.requires.busy in
+    let s = (c.loop-block.invariant o.0 o.1).scans in
+    let many = scans_count c.args.self.now c.args.session.now c.loop-block.session o.0 c.args.table c.loop-block.block c.loop-block.by_place.entries s in
+    let count = s.went.count in
+    let room = c.requires.room in
+    let few = c.blocks-block-end.ensures.few in
+    let below = c.loop-block-test.true in
+    let end' = c.loop-block.auto.block-end in
+    omega (arith, many, count, room, few, below, end')
+
+pub read_into-requires-clause-busy : goal.read_into-requires-clause-busy
+read_into-requires-clause-busy g c =
+    let o = own_open c.args.session.now c.requires.busy in
+    let s = (c.loop-block.invariant o.0 o.1).scans in
+    ap (λ (x : Option OwnTransaction). is_some x) s.went.opened ∙ c.requires.busy
+
+pub returns-in_err-read_into-clause-session : goal.returns-in_err-read_into-clause-session
+returns-in_err-read_into-clause-session g c =
+    let o = own_open c.args.session.now c.requires.busy in
+    let s = (c.loop-block.invariant o.0 o.1).scans in
+    (c.read_into.ensures o.0 (s.went.opened ∙ o.1)).reads.session
+
+pub returns-in_err-read_into-clause-same : goal.returns-in_err-read_into-clause-same
+returns-in_err-read_into-clause-same g c =
+    let o = own_open c.args.session.now c.requires.busy in
+    let s = (c.loop-block.invariant o.0 o.1).scans in
+    (c.read_into.ensures o.0 (s.went.opened ∙ o.1)).reads.same ∙ s.went.same
+
+pub returns-in_err-read_into-clause-answers : goal.returns-in_err-read_into-clause-answers
+returns-in_err-read_into-clause-answers g c =
+    let st = c.args.self.now in
+    let o = own_open c.args.session.now c.requires.busy in
+    let s = (c.loop-block.invariant o.0 o.1).scans in
+    let r = c.read_into.ensures o.0 (s.went.opened ∙ o.1) in
+    let blocks : c.blocks-block-end.result ≡ blocks_of (shape_in st) c.args.table = c.blocks-block-end.ensures.blocks ∙ ap (λ (sh : Shape). blocks_of sh c.args.table) (c.shape-shape.ensures ∙ c.self.invariant.shape ∙ ap shape_in c.self.view_is) in
+    let below = c.loop-block-test.true in
+    let end' = c.loop-block.auto.block-end in
+    subst (λ (line : Said). Answers st c.args.session.now c.read_into.new.session (Scan c.args.table) line) (sym (unscanned c.from_residual.result c.from_residual.ensures.0))
+    (scan_unread st o.0 c.args.table c.args.session.now c.requires.session o.1 c.loop-block.session c.read_into.new.session c.loop-block.block c.loop-block.by_place.entries r.told
+    (omega (arith, blocks, below, end')) s r.reads)
+
+pub returns-in_err-read_into-clause-steps : goal.returns-in_err-read_into-clause-steps
+returns-in_err-read_into-clause-steps g c =
+    let st = c.args.self.now in
+    let o = own_open c.args.session.now c.requires.busy in
+    let s = c.loop-block.invariant o.0 o.1 in
+    let r = c.read_into.ensures o.0 (s.scans.went.opened ∙ o.1) in
+    let blocks : c.blocks-block-end.result ≡ blocks_of (shape_in st) c.args.table = c.blocks-block-end.ensures.blocks ∙ ap (λ (sh : Shape). blocks_of sh c.args.table) (c.shape-shape.ensures ∙ c.self.invariant.shape ∙ ap shape_in c.self.view_is) in
+    let below = c.loop-block-test.true in
+    let end' = c.loop-block.auto.block-end in
+    steps_break st o.0 c.args.table c.args.session.now c.loop-block.session c.read_into.new.session c.loop-block.block c.loop-block.by_place.entries r.told
+    c.args.steps.now c.loop-block.steps c.read_into.new.steps s r.reads (omega (arith, blocks, below, end')) r.few
+
+pub loop-block-preserved : goal.loop-block-preserved
+loop-block-preserved g c own is =
+    let st = c.args.self.now in
+    let s = c.loop-block.invariant own is in
+    let r = c.in_ok-read_into.ensures own (s.scans.went.opened ∙ is) in
+    let blocks : c.blocks-block-end.result ≡ blocks_of (shape_in st) c.args.table = c.blocks-block-end.ensures.blocks ∙ ap (λ (sh : Shape). blocks_of sh c.args.table) (c.shape-shape.ensures ∙ c.self.invariant.shape ∙ ap shape_in c.self.view_is) in
+    let below = c.loop-block-test.true in
+    let end' = c.loop-block.auto.block-end in
+    steps_go_on st own c.args.table c.args.session.now c.loop-block.session c.read_into.new.session c.loop-block.block c.loop-block.by_place.entries r.told
+    c.args.steps.now c.loop-block.steps c.read_into.new.steps s r.reads (omega (arith, blocks, below, end')) r.few c.read_into.new.by_place.entries r.granted r.laid
+
+pub returns-clause-session : goal.returns-clause-session
+returns-clause-session g c =
+    let o = own_open c.args.session.now c.requires.busy in
+    (c.loop-block.invariant o.0 o.1).scans.went.session
+
+pub returns-clause-same : goal.returns-clause-same
+returns-clause-same g c =
+    let o = own_open c.args.session.now c.requires.busy in
+    (c.loop-block.invariant o.0 o.1).scans.went.same
+
+pub returns-clause-answers : goal.returns-clause-answers
+returns-clause-answers g c =
+    let st = c.args.self.now in
+    let o = own_open c.args.session.now c.requires.busy in
+    let s = (c.loop-block.invariant o.0 o.1).scans in
+    let blocks : c.blocks-block-end.result ≡ blocks_of (shape_in st) c.args.table = c.blocks-block-end.ensures.blocks ∙ ap (λ (sh : Shape). blocks_of sh c.args.table) (c.shape-shape.ensures ∙ c.self.invariant.shape ∙ ap shape_in c.self.view_is) in
+    let done = c.loop-block-test.false in
+    let end' = c.loop-block.auto.block-end in
+    let all : c.loop-block.block ≡ blocks_of (shape_in st) c.args.table = omega (arith, blocks, done, end') in
+    scan_ends st o.0 c.args.table c.args.session.now c.loop-block.session c.loop-block.by_place.entries c.rows_in_order.result c.requires.session o.1
+    (subst (λ k. Scans st c.args.session.now c.loop-block.session o.0 c.args.table k c.loop-block.by_place.entries) all s) c.rows_in_order.ensures
+
+pub returns-clause-steps : goal.returns-clause-steps
+returns-clause-steps g c =
+    let o = own_open c.args.session.now c.requires.busy in
+    steps_end c.args.self.now o.0 c.args.table c.args.session.now c.loop-block.session c.loop-block.block c.loop-block.by_place.entries c.args.steps.now c.loop-block.steps
+    (c.loop-block.invariant o.0 o.1)
+
+pub returns-in_err-read_into-clause-finds : goal.returns-in_err-read_into-clause-finds
+returns-in_err-read_into-clause-finds g c =
+    let o = own_open c.args.session.now c.requires.busy in
+    let s = (c.loop-block.invariant o.0 o.1).scans in
+    let r = c.read_into.ensures o.0 (s.went.opened ∙ o.1) in
+    scan_unread_finds c.args.self.now c.args.session.now c.loop-block.session c.read_into.new.session o.0 c.args.table c.loop-block.block c.loop-block.by_place.entries r.told
+    c.from_residual.result s r.reads c.from_residual.ensures.0
+
+pub returns-in_err-read_into-clause-few : goal.returns-in_err-read_into-clause-few
+returns-in_err-read_into-clause-few g c =
+    let o = own_open c.args.session.now c.requires.busy in
+    let s = (c.loop-block.invariant o.0 o.1).scans in
+    let many = scans_count c.args.self.now c.args.session.now c.loop-block.session o.0 c.args.table c.loop-block.block c.loop-block.by_place.entries s in
+    let count = s.went.count in
+    let one = (c.read_into.ensures o.0 (s.went.opened ∙ o.1)).reads.count in
+    let few = c.blocks-block-end.ensures.few in
+    let below = c.loop-block-test.true in
+    let end' = c.loop-block.auto.block-end in
+    omega (arith, many, count, one, few, below, end')
+
+pub returns-clause-finds : goal.returns-clause-finds
+returns-clause-finds g c =
+    let st = c.args.self.now in
+    let o = own_open c.args.session.now c.requires.busy in
+    let s = (c.loop-block.invariant o.0 o.1).scans in
+    let blocks : c.blocks-block-end.result ≡ blocks_of (shape_in st) c.args.table = c.blocks-block-end.ensures.blocks ∙ ap (λ (sh : Shape). blocks_of sh c.args.table) (c.shape-shape.ensures ∙ c.self.invariant.shape ∙ ap shape_in c.self.view_is) in
+    let done = c.loop-block-test.false in
+    let end' = c.loop-block.auto.block-end in
+    let all : c.loop-block.block ≡ blocks_of (shape_in st) c.args.table = omega (arith, blocks, done, end') in
+    scan_finds st c.args.session.now c.loop-block.session o.0 c.args.table c.loop-block.by_place.entries c.rows_in_order.result c.requires.session o.1
+    (subst (λ k. Scans st c.args.session.now c.loop-block.session o.0 c.args.table k c.loop-block.by_place.entries) all s) c.rows_in_order.ensures
+
+pub returns-clause-few : goal.returns-clause-few
+returns-clause-few g c =
+    let o = own_open c.args.session.now c.requires.busy in
+    let s = (c.loop-block.invariant o.0 o.1).scans in
+    let many = scans_count c.args.self.now c.args.session.now c.loop-block.session o.0 c.args.table c.loop-block.block c.loop-block.by_place.entries s in
+    let count = s.went.count in
+    let few = c.blocks-block-end.ensures.few in
+    let end' = c.loop-block.auto.block-end in
+    omega (arith, many, count, few, end')

@@ -1,8 +1,0 @@
-use Rattle.std.proofs.Common.{◌≡◌, Some}
-use Rattle.event_spec.specs.declared.own.OwnTransaction.{OwnTransaction}
-use Rattle.shared_store.specs.Scanning.{Scans}
-use Rattle.shared_store.specs.Store.{own_of}
-use Rattle.shared_store.proofs.store.Store.scan_by.Given as goal
-
-abbrev pub invariant-loop-block : goal.invariant-loop-block
-invariant-loop-block g l = (own : OwnTransaction) → own_of l.fn.session ≡ Some own → Scans l.fn.self l.fn.session l.session own l.fn.table l.block l.by_place.entries
