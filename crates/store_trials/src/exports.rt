@@ -3,17 +3,40 @@ ghost use Rattle.std.specs.Prelude.{◌≤◌, ◌^◌, length};
 ghost use Rattle.shared_store.specs.Store.{HasRoomFor, IsSession, shape_in};
 
 use crate::turns::{Change, write};
-use byte_ports::ListSink;
+use byte_ports::StdSink;
 use ipc_write::{SinkFault, Writer};
 use shared_store::{Session, Store};
 use std::alloc::Global;
+use std::io::{self, ErrorKind, Write};
 use std::process::Abort;
 use std::sync::Wait;
 use std::test::Fail;
 use store_export::{ExportFault, export_uncounted};
 
-/// How many bytes the schema's message has, which is the first piece that goes to the sink.
-const SCHEMA: usize = 160;
+/// How many bytes the sink takes: the message of the schema, the head of that of the block, and three
+/// of the block's six keys.
+const ROOM: usize = 160 + 152 + 24;
+
+/// A writer that takes bytes as long as it has room, and then fails.
+#[derive(Drop)]
+struct Narrow {
+    room: usize,
+}
+
+impl Write for Narrow {
+    fn write(&mut self, buf: &[u8]) -> io::Result<usize> {
+        if self.room == 0 {
+            return Err(io::Error::from(ErrorKind::StorageFull));
+        }
+        let count = buf.len().min(self.room);
+        self.room -= count;
+        Ok(count)
+    }
+
+    fn flush(&mut self) -> io::Result<()> {
+        Ok(())
+    }
+}
 
 /// Breaks an export off in the bytes of the first block, which is frozen: its fault is told, the
 /// writer tells it again, and the transaction goes on.
@@ -33,12 +56,13 @@ pub(crate) fn break_off<R: Abort + Wait>(
     }
     // A table has at most 2^10 blocks, so each of the exports makes few events.
     let _tables = store.tables();
-    let mut writer = Writer::new(ListSink::new(alloc, &[2])?);
+    let mut narrow = Narrow { room: ROOM };
+    let mut writer = Writer::new(StdSink::new(&mut narrow));
     let first = export_uncounted(store, rt, session, 0, &mut writer);
     let again = export_uncounted(store, rt, session, 0, &mut writer);
     assert_eq!(rt; first, Err(ExportFault::Sink(SinkFault { earlier: false })));
     assert_eq!(rt; again, Err(ExportFault::Sink(SinkFault { earlier: true })));
-    let sink = writer.into_inner();
-    assert_eq!(rt; sink.written().len(), SCHEMA);
+    drop(writer);
+    assert_eq!(rt; narrow.room, 0);
     write(rt, alloc, store, session, Change::Update(1))
 }
