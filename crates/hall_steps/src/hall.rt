@@ -57,11 +57,14 @@ impl<C: Parts> Model for Hall<C> {
         × (length (C.state_of hall.table.shared.key.core.value) < 2 ^ 32) };
 }
 
-/// What one thread works with: its seat at the hall's table, and its hands.
+/// What one thread works with: its seat at the hall's table, its hands, and how many events it
+/// made.
 #[derive(Drop)]
 pub struct Pass<C: Parts> {
     pub(crate) seat: Place<C>,
     pub(crate) hands: Hands<C::Part>,
+    pub(crate) events: u64,
+    ghost counted: { events ≡ length seat.me.0.mine },
 }
 
 impl<C: Parts> Pass<C> {
@@ -79,6 +82,13 @@ impl<C: Parts> Pass<C> {
         ensures { slice_get (first_of self.now.hands) part ≡ Some (Some result.now) }
     {
         self.hands.first().part(part)
+    }
+
+    /// How many events the pass made, those of the passes that were joined into it among them.
+    pub fn events(&self) -> u64
+        ensures { result ≡ length self.now.seat.me.0.mine }
+    {
+        self.events
     }
 }
 
@@ -172,13 +182,15 @@ impl<C: Parts> Hall<C> {
         let Some(hand) = pass.hands.list.front_mut() else {
             unreachable!()
         };
-        make(
+        let reply = make(
             &self.table.shared,
             &self.shape,
             &mut pass.seat,
             hand,
             event,
             steps,
-        )
+        );
+        pass.events += 1;
+        reply
     }
 }

@@ -47,7 +47,11 @@ impl<C: Parts> Hall<C> {
         let mut seat = self.table.shared.split_seat::<Deal>(&mut pass.seat);
         see(&self.table.shared, &mut seat);
         let hands = pass.hands.split_last();
-        Pass { seat, hands }
+        Pass {
+            seat,
+            hands,
+            events: 0,
+        }
     }
 
     /// Makes a pass without a hand, which has seen no less.
@@ -65,6 +69,7 @@ impl<C: Parts> Hall<C> {
         Pass {
             seat,
             hands: Hands::none(self.alloc),
+            events: 0,
         }
     }
 
@@ -84,10 +89,15 @@ impl<C: Parts> Hall<C> {
         ensures only { (k : ℕ) → Holds (first_of pass.new.hands) k
             → Holds (first_of pass.old.hands) k }
     {
-        let Pass { seat, hands } = ended;
+        let Pass {
+            seat,
+            hands,
+            events,
+        } = ended;
         join_as::<C, Brand>(&self.table.shared, &mut pass.seat, seat);
         see(&self.table.shared, &mut pass.seat);
         pass.hands.append(hands);
+        pass.events += events;
     }
 
     /// What the log has under a session of the pass under which no other made an entry: exactly the
