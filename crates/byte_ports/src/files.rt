@@ -132,6 +132,7 @@ impl<M: MakeFiles> Sink for FileOutlet<M> {
         ensures cause { OnErr result (Rose self.old.faults self.new.faults) }
 
         ensures faults { self.new.faults ≡ faults_after self.old.faults (is_err result) }
+        ensures started { OnOk result (IsSome self.old.inner) }
         ensures inner { WriteAppends (held M.File.contents self.old.inner)
             (held M.File.contents self.new.inner) result piece.now }
     {

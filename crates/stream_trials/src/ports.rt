@@ -1,9 +1,11 @@
 //! Tests of the ports: doubles that fail where their lists say so, the ports over std with short
 //! and failed writes, and an outlet that is a file.
+ghost use Rattle.std.specs.Prelude.{None};
+
 use byte_ports::{
-    Failed, FileOutlet, Gate, InputFault, ListOutlet, ListSink, ListSource, OpenGate, Outlet,
-    PureOutlet, PureSink, PureSource, Sink, Source, StdSink, StdSource, SystemFiles, read_to_end,
-    write_all,
+    Failed, FileOutlet, Gate, InputFault, ListOutlet, ListSink, ListSource, MakeFiles, OpenGate,
+    Outlet, PureOutlet, PureSink, PureSource, Sink, Source, StdSink, StdSource, SystemFiles,
+    read_to_end, write_all,
 };
 use std::alloc::Global;
 use std::fs::{self, File};
@@ -179,6 +181,16 @@ struct Slow {
 }
 
 impl Slow {
+    fn new(failing: u32, kind: ErrorKind) -> Self {
+        Slow {
+            taken: [0; 8],
+            count: 0,
+            calls: 0,
+            failing,
+            kind,
+        }
+    }
+
     fn count_call(&mut self) -> io::Result<()> {
         self.calls = self.calls.saturating_add(1);
         if self.calls == self.failing {
@@ -203,6 +215,25 @@ impl Write for Slow {
 
     fn flush(&mut self) -> io::Result<()> {
         self.count_call()
+    }
+}
+
+/// Makes files that are slow writers, all of the same failing call.
+#[derive(Drop)]
+struct SlowFiles {
+    failing: u32,
+    kind: ErrorKind,
+}
+
+impl MakeFiles for SlowFiles {
+    type File = Slow;
+
+    ghost path = { λ _. None };
+
+    ghost number = { λ _. None };
+
+    fn make(&self, _name: &str) -> io::Result<Slow> {
+        Ok(Slow::new(self.failing, self.kind))
     }
 }
 
@@ -275,18 +306,25 @@ fn std_sink_writes_on_after_a_short_or_interrupted_write_and_stops_at_a_failed_o
     rt: HostRuntime,
 ) {
     for case in &SLOW_CASES {
-        let mut writer = Slow {
-            taken: [0; 8],
-            count: 0,
-            calls: 0,
-            failing: case.failing,
-            kind: case.kind,
-        };
+        let mut writer = Slow::new(case.failing, case.kind);
         let mut sink = StdSink::new(&mut writer);
         assert_eq!(rt; write_all(&mut sink, b"abcde"), case.written);
         assert_eq!(rt; flush_once(&mut &mut sink), case.flushed);
         drop(sink);
         assert_eq!(rt; writer.taken.get(..writer.count), Some(case.taken));
+    }
+}
+
+#[test]
+fn file_outlet_writes_to_its_file_and_flushes_it(rt: HostRuntime) {
+    for case in &SLOW_CASES {
+        let mut outlet = FileOutlet::new(SlowFiles {
+            failing: case.failing,
+            kind: case.kind,
+        });
+        assert_eq!(rt; is_started(&mut outlet, "e"), true);
+        assert_eq!(rt; write_all(&mut outlet, b"abcde"), case.written);
+        assert_eq!(rt; flush_once(&mut outlet), case.flushed);
     }
 }
 
@@ -306,6 +344,7 @@ fn file_outlet_writes_to_the_file_of_its_name(rt: HostRuntime) -> Result<(), Fai
     assert_eq!(rt; flush_once(&mut outlet), Ok(()));
     assert_eq!(rt; is_started(&mut outlet, "no/such/folder"), false);
     for path in paths {
+        fs::write(&rt, path, "an older and longer file")?;
         assert_eq!(rt; is_started(&mut outlet, path), true);
         assert_eq!(rt; write_all(&mut outlet, path.as_bytes()), Ok(()));
         assert_eq!(rt; flush_once(&mut outlet), Ok(()));
