@@ -1,19 +1,22 @@
 -- Where a key's row lies, and what a sealed body has.
-use Rattle.std.proofs.Common.{◌≡◌, ℕ, ◌<◌, ◌≤◌, ◌^◌, ◌&&◌, ℤ, Bool, true, false, cond, IfOk, Result, Ok, Err, List, [], ◌∷◌, Option, None, Some, length, map, take, refl, sym, ap, ◌∙◌, subst, arith}
+use Rattle.std.proofs.Common.{◌≡◌, ℕ, suc, ◌-◌, ◌<◌, ◌≤◌, ◌^◌, ◌&&◌, ℤ, Bool, true, false, cond, IfOk, Result, Ok, Err, List, [], ◌∷◌, Option, None, Some, drop, is_some, length, map, take, refl, sym, ap, ◌∙◌, subst, arith}
+use mathlib.Core.Logic.{inl, inr}
 use Rattle.std.proofs.lemmas.List.{length-map}
 use Rattle.std.proofs.lemmas.List.Sums.{count_by-le-length}
-use Rattle.std.specs.Prelude.{IfSome, count_by, flat_map, is_some, option_and_then, option_to_list}
+use Rattle.std.specs.Prelude.{IfSome, count_by, flat_map, option_and_then, option_to_list}
+use Rattle.std.specs.Option.{option_or}
 use Rattle.block_layout.specs.Place.{block_of, slot_of}
-use Rattle.block_spec.specs.Bodies.{Body, has_row, is_front, is_imaged, is_loose, rows_of}
+use Rattle.block_spec.specs.Bodies.{Body, has_row, is_front, is_imaged, is_loose, rows_of, slot_in}
 use Rattle.block_spec.specs.declared.phase.Phase.TheVariants.{Imaged, Loose, Sealed}
 use Rattle.block_spec.specs.Slots.{Row, Slot}
 use Rattle.core_parts.proofs.Front.{front_rows}
 use Rattle.core_parts.proofs.Telling.{a_body, a_shard, body_is, body_there, places_are}
 use Rattle.core_parts.specs.Hands.{Has, Held, in_hand}
 use Rattle.engine_core.proofs.Wholes.{agrees, has_its_body, has_its_shard}
-use Rattle.engine_core.specs.Asks.{HasKeyParts, IsOfCore, imaged_block}
+use Rattle.engine_core.specs.Asks.{HasKeyParts, IsOfCore, imaged_block, newest_of}
 use Rattle.engine_core.specs.Core.{IsWhole, parts_in}
 use Rattle.event_spec.specs.declared.part.Part.TheVariants as part
+use Rattle.event_spec.specs.Follows.{StandsBefore}
 use Rattle.event_spec.specs.Judged.{current_place}
 use Rattle.event_spec.specs.Lawful.{Among, HasBlock, HasTable, IsImageOf, IsThawed}
 use Rattle.event_spec.specs.Parts.{Parts, Shape, ShardOf, BodyOf, body_at, body_from, places_at, shard_from, shard_of, slot_at}
@@ -23,6 +26,7 @@ use Rattle.hall_rule.specs.Hands.{Agrees}
 use Rattle.core_events.specs.Candidates.{candidates_in}
 use Rattle.key_index.specs.Candidates.{candidates_of}
 use Rattle.core_events.specs.Slots.{HasSlots}
+use Rattle.core_laws.proofs.Slots.Ages.{before_among, no_row}
 use Rattle.core_laws.proofs.Sound.Written.{filled_there}
 
 -- the candidates are the core's
@@ -87,6 +91,57 @@ module _ (sh : Shape) (hand : Held) (s : Parts) (t : ℕ) (key : ℤ) where
     where
       some_block : ℕ → Option ℕ
       some_block block = Some block
+
+-- ---- the newest candidate
+
+-- the newest is the last of the places
+pub newest_last : (places : List ℕ) → drop (length places - 1) places ≡ newest_of places
+newest_last [] = refl
+newest_last (p ∷ []) = refl
+newest_last (p ∷ q ∷ places) =
+    ap (λ n. drop n (p ∷ q ∷ places)) (let e : length (p ∷ q ∷ places) - 1 ≡ suc (length (q ∷ places) - 1) = omega arith in e)
+    ∙ newest_last (q ∷ places)
+
+-- it is one of them
+newest_among : (places : List ℕ) (r : ℕ) → Among r (newest_of places) → Among r places
+newest_among [] r a = a
+newest_among (p ∷ []) r a = a
+newest_among (p ∷ q ∷ places) r a = inr (newest_among (q ∷ places) r a)
+
+-- The current row lies there, where no place before another has one.
+current_newest : (slot : ℕ → Slot) (places : List ℕ) → ((one other : ℕ) → StandsBefore one other places → (slot one).row ≡ None)
+    → current_place slot (newest_of places) ≡ current_place slot places
+current_newest slot [] none = refl
+current_newest slot (p ∷ []) none = refl
+current_newest slot (p ∷ q ∷ places) none =
+    current_newest slot (q ∷ places) (λ one other b. none one other (inr b))
+    ∙ ap (λ (row : Option Row). option_or (cond (is_some row) (Some p) None) (current_place slot (q ∷ places))) (sym (none p q (inl (refl, inl refl))))
+
+module _ (sh : Shape) (hand : Held) (t : ℕ) (key : ℤ) (has : HasKeyParts sh hand t key) (core : IsOfCore sh hand) where
+  -- an older candidate has no row
+  none_older : (s : Parts) → Agrees hand s → (one other : ℕ) → StandsBefore one other (candidates_in sh hand t key) → (slot_at sh s t one).row ≡ None
+  none_older s agrees one other b =
+      let x = a_body sh hand t (block_of one) (has.bodies one (before_among one other (candidates_in sh hand t key) b)) in
+      let here = body_is sh hand s agrees t (block_of one) x.0 x.1 in
+      let there = body_is sh hand core.parts core.agrees t (block_of one) x.0 x.1 in
+      let old = core.holds.sound.follows.1.aged t key one other (subst (StandsBefore one other) (sym (candidates_are sh hand t key has core.parts core.agrees)) b) in
+      ap (λ (body : Body). (slot_in body (slot_of one)).row) (here ∙ sym there)
+      ∙ no_row (slot_at sh core.parts t one) old.settled
+
+  -- so the current row lies at the newest, if anywhere
+  pub current_there : (s : Parts) → Agrees hand s → current_place (slot_at sh s t) (newest_of (candidates_in sh hand t key)) ≡ current_place (slot_at sh s t) (candidates_in sh hand t key)
+  current_there s agrees = current_newest (slot_at sh s t) (candidates_in sh hand t key) (none_older s agrees)
+
+  -- and the newest has its slot in the hand
+  pub newest_there : HasSlots sh hand t (newest_of (candidates_in sh hand t key))
+  newest_there p a = slots_are sh hand t key has core p (newest_among (candidates_in sh hand t key) p a)
+
+  -- and its block, where it is imaged, is the one that is told
+  pub imaged_newest : (s : Parts) → Agrees hand s → (places : List ℕ) (o : Option ℕ) → places ≡ newest_of (candidates_in sh hand t key)
+      → o ≡ current_place (slot_at sh s t) places → imaged_where sh hand s t key o ≡ imaged_block sh s t key
+  imaged_newest s agrees places o are is =
+      imaged_told sh hand s t key (candidates_in sh hand t key) o (candidates_are sh hand t key has s agrees)
+      (is ∙ ap (current_place (slot_at sh s t)) are ∙ current_there s agrees)
 
 -- ---- a sealed body's rows
 

@@ -1,5 +1,6 @@
 -- What a call asks of the parts in its hand before an event.
-use Rattle.std.specs.Prelude.{ℕ, ℤ, Option, None, Some, option_and_then, if◌then◌else◌}
+use Rattle.std.specs.Prelude.{ℕ, ℤ, List, [], ◌∷◌, Option, None, Some, option_and_then}
+use Rattle.std.specs.Prelude.{if◌then◌else◌}
 use Rattle.block_layout.specs.Place.{block_of}
 use Rattle.block_spec.specs.Bodies.{is_imaged}
 use Rattle.core_parts.specs.Hands.{Has, Held}
@@ -23,6 +24,12 @@ pub record HasKeyParts (shape : Shape) (hand : Held) (table : ℕ) (key : ℤ) :
   pub shard : Has shape hand (ShardOf table (shard_of key))
   pub bodies : (place : ℕ) → Among place (candidates_in shape hand table key)
       → Has shape hand (BodyOf table (block_of place))
+
+-- the newest of a key's candidates alone, if there is one
+abbrev pub newest_of : List ℕ → List ℕ
+newest_of [] = []
+newest_of (place ∷ []) = place ∷ []
+newest_of (place ∷ later ∷ places) = newest_of (later ∷ places)
 
 -- the imaged block that a write of a key would change: that of the key's current row
 abbrev pub imaged_block : Shape → Parts → ℕ → ℤ → Option ℕ

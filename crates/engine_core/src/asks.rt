@@ -1,12 +1,13 @@
 //! What a call asks of the parts in its hand before an event.
 ghost use Rattle.std.specs.Prelude.{◌≡◌, None, IfOk};
 ghost use Rattle.core_parts.specs.Hands.{Has};
-ghost use Rattle.engine_core.specs.Asks.{HasKeyParts, IsOfCore, imaged_block};
+ghost use Rattle.engine_core.specs.Asks.{HasKeyParts, IsOfCore, imaged_block, newest_of};
 ghost use Rattle.event_spec.specs.Lawful.{IsImageOf, IsThawed};
 ghost use Rattle.event_spec.specs.Parts.{Parts, BodyOf, body_at};
 ghost use Rattle.core_laws.specs.Frames.Shards.{CoreHolds};
 ghost use Rattle.hall_rule.specs.Hands.{Agrees};
 
+use block_layout::SlotId;
 use block_spec::Phase;
 use core_events::{candidates, current};
 use core_parts::{CorePart, Gathered, Shape, body};
@@ -14,6 +15,13 @@ use gather_core::gather_form;
 use hall_rule::Hand;
 use std::alloc::AllocError;
 use std::thread::Threads;
+
+/// The newest of a key's candidates alone, if there is one. They stand in the order of their age.
+fn newest(places: &[SlotId]) -> &[SlotId]
+    ensures { result.now ≡ newest_of places.now }
+{
+    &places[places.len().saturating_sub(1)..]
+}
 
 /// The imaged block that a write of the key would change: that of the key's current row, where it
 /// has one. Such a block is to be thawed before the write.
@@ -24,7 +32,8 @@ pub fn imaged(shape: &Shape, held: &Hand<CorePart>, table: u32, key: i64) -> Opt
     ensures thawed { result ≡ None → (s : Parts) → Agrees held.now s
         → IsThawed shape.now table key s }
 {
-    let places = candidates(shape, held, table, key);
+    // No older candidate has a row.
+    let places = newest(candidates(shape, held, table, key));
     let place = current(shape, held, table, places)?;
     let block = place.block();
     match body(shape, held, table, block).phase() {
