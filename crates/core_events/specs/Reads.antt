@@ -4,18 +4,10 @@ use Rattle.std.specs.List.{filter_map}
 use Rattle.block_layout.specs.Place.{place_of}
 use Rattle.block_spec.specs.Bodies.{Body, slot_in}
 use Rattle.block_spec.specs.Slots.{Row, Slot, seen}
-use Rattle.core_events.specs.declared.reading.BlockRows.{BlockRows}
-use Rattle.core_events.specs.declared.reading.BlockRows.TheVariants as rows
 use Rattle.event_spec.specs.declared.own.OwnTransaction.{OwnTransaction}
-use Rattle.event_spec.specs.declared.reply.Reply.TheVariants as reply
 use Rattle.event_spec.specs.Parts.{below}
-use Rattle.event_spec.specs.Replies.{CoreReply, is_elsewhere}
+use Rattle.event_spec.specs.Replies.{is_elsewhere}
 use Rattle.isolation_spec.specs.Contents.{at_place, key_of, place_at}
-
--- what the core replies
-abbrev pub reply_of : BlockRows → CoreReply
-reply_of (rows.Seen read) = reply.Rows read
-reply_of (rows.Shared all) = reply.Shared all
 
 -- the row of a slot that the session sees, but for one whose key it wrote at another place
 abbrev pub row_in : OwnTransaction → ℕ → ℕ → Slot → Option Row

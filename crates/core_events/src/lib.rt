@@ -26,7 +26,7 @@ pub use inserts::insert;
 pub use keyed::{candidates, deciding};
 pub use looking::look;
 pub use patches::patch_at;
-pub use reading::{BlockRows, read};
+pub use reading::{CoreReply, read};
 pub use reads::get;
 pub use sessions::{begin, oldest};
 pub use sharing::shared;

@@ -6,35 +6,30 @@ ghost use Rattle.block_layout.specs.Place.{slot_of};
 ghost use Rattle.block_spec.specs.Bodies.{is_front, is_imaged, rows_of, slot_in};
 ghost use Rattle.block_spec.specs.Slots.{seen};
 ghost use Rattle.core_parts.specs.Hands.{Makes, MayRun};
-ghost use Rattle.core_events.specs.Reads.{reply_of, row_in, rows_in};
+ghost use Rattle.core_events.specs.Reads.{row_in, rows_in};
 ghost use Rattle.event_spec.specs.declared.event.Event.TheVariants as event;
 ghost use Rattle.event_spec.specs.Parts.{Parts, body_at, slots_of};
 ghost use Rattle.event_spec.specs.Replies.{is_elsewhere};
 ghost use Rattle.hall_rule.specs.Hands.{Agrees};
 ghost use Rattle.isolation_spec.specs.Contents.{at_place, place_at};
 
-use block_body::{Body, key_of};
+use block_body::{Body, Look, key_of};
 use block_layout::SlotId;
 use cell_model::{Row, Rows};
 use core_parts::{CorePart, FrontColumns, ReadRows, Shape, SharedRows, body};
-use event_spec::{OwnTransaction, OwnWrites};
+use event_spec::{OwnTransaction, OwnWrites, Reply};
 use hall_rule::Hand;
 use isolation_spec::Place;
 use std::alloc::{AllocError, Global};
 use std::sync::ledger::Ledger;
 use steps::Steps;
 
-/// The rows of a block, as a session sees them.
-#[derive(Drop)]
-pub enum BlockRows {
-    /// The rows that it sees, in slot order, without those whose key it wrote at another slot.
-    Seen(ReadRows),
-    /// The shared image of an imaged block's rows.
-    Shared(SharedRows),
-}
+/// What the core replies.
+pub type CoreReply = Reply<ReadRows, SharedRows, Look>;
 
-/// The rows of a block that the session sees. Each slot's row is read once, and none where the
-/// block is imaged. Where each session sees all of them, they are copied column by column.
+/// The rows of a block that the session sees, as they are replied. Each slot's row is read once,
+/// and none where the block is imaged. Where each session sees all of them, they are copied column
+/// by column.
 pub fn read<L: Ledger>(
     shape: &Shape,
     held: &Hand<CorePart>,
@@ -42,10 +37,10 @@ pub fn read<L: Ledger>(
     table: u32,
     block: u32,
     steps: &mut Steps<L>,
-) -> Result<BlockRows, AllocError>
+) -> Result<CoreReply, AllocError>
     requires { MayRun shape.now (event.Read own.now table block) held.now }
-    ensures reply { IfOk result (λ rows. Makes shape.now (event.Read own.now table block) held.now
-        held.now (reply_of rows)) }
+    ensures reply { IfOk result (Makes shape.now (event.Read own.now table block) held.now
+        held.now) }
     ensures steps { (s : Parts) → Agrees held.now s →
         steps.new ≤ steps.old + (if is_imaged (body_at shape.now s table block).phase then 0
         else slots_of shape.now table) }
@@ -54,10 +49,10 @@ pub fn read<L: Ledger>(
     let _schema = shape.schema(table);
     let body = body(shape, held, table, block);
     match body.shared()? {
-        Some(shared) => Ok(BlockRows::Shared(SharedRows::new(shared))),
+        Some(shared) => Ok(Reply::Shared(SharedRows::new(shared))),
         None => {
             let rows = rows_in(shape.alloc(), body, own, table, block, steps)?;
-            Ok(BlockRows::Seen(rows))
+            Ok(Reply::Rows(rows))
         }
     }
 }

@@ -9,9 +9,10 @@ ghost use Rattle.event_spec.specs.Parts.{body_at};
 ghost use Rattle.event_spec.specs.Replay.{after, reply_after};
 
 use crate::asks::{image_of, imaged};
-use crate::engine::{Core, CoreReply};
+use crate::engine::Core;
 use crate::running::run;
 use cell_model::TableDecl;
+use core_events::CoreReply;
 use core_parts::{Gathered, KeyedEvent, Shape, opening_hand};
 use hall_rule::Steps;
 use std::alloc::{AllocError, Global};

@@ -14,16 +14,12 @@ ghost use Rattle.core_laws.proofs.Hall.Meets.{has_laws};
 ghost use Rattle.core_laws.proofs.Parts.Lasting.{learns};
 
 use crate::running::run;
-use block_body::Look;
-use core_parts::{CorePart, KeyedEvent, ReadRows, Shape, SharedRows, next_touched, touches};
-use event_spec::Reply;
+use core_events::CoreReply;
+use core_parts::{CorePart, KeyedEvent, Shape, next_touched, touches};
 use hall_rule::{Hand, Parts, Steps};
 use std::alloc::AllocError;
 use std::marker::Model;
 use std::sync::ledger::Ledger;
-
-/// What the core replies.
-pub type CoreReply = Reply<ReadRows, SharedRows, Look>;
 
 /// A core of tables: a hand that has all its parts. Contracts see its shape and its parts, which
 /// are those of a core that holds.

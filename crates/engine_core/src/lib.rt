@@ -9,4 +9,5 @@ mod replies;
 mod running;
 
 pub use asks::{image_of, imaged};
-pub use engine::{Core, CoreReply, Opened};
+pub use core_events::CoreReply;
+pub use engine::{Core, Opened};

@@ -12,11 +12,10 @@ ghost use Rattle.event_spec.specs.Parts.{Parts as CoreParts};
 ghost use Rattle.event_spec.specs.Replies.{reply_to_write};
 ghost use Rattle.hall_rule.specs.Hands.{Agrees};
 
-use crate::engine::CoreReply;
 use block_layout::SlotId;
 use cell_model::Row;
 use core_events::{
-    BlockRows, begin, delete, get, image, insert, look, observe, oldest, read, seal, thaw, update,
+    CoreReply, begin, delete, get, image, insert, look, observe, oldest, read, seal, thaw, update,
 };
 use core_parts::{CorePart, Gathered, Shape};
 use core_sweeps::{abort, commit, move_rows, prune};
@@ -211,8 +210,7 @@ pub(crate) fn rows_read<L: Ledger>(
         → steps.new ≤ steps.old + cost_of shape.now (event.Read own.now table block) parts }
 {
     match read(shape, held, own, table, block, steps) {
-        Ok(BlockRows::Seen(rows)) => Reply::Rows(rows),
-        Ok(BlockRows::Shared(rows)) => Reply::Shared(rows),
+        Ok(reply) => reply,
         Err(AllocError) => Reply::Memory,
     }
 }

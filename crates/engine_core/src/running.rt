@@ -7,11 +7,11 @@ ghost use Rattle.event_spec.specs.Parts.{Parts as CoreParts};
 ghost use Rattle.core_laws.specs.Frames.Shards.{CoreHolds};
 ghost use Rattle.hall_rule.specs.Hands.{Agrees};
 
-use crate::engine::CoreReply;
 use crate::replies::{
     aborted, begun, committed, deleted, found, frozen, inserted, least_stamp, looked, moved,
     observed, pruned, rows_read, sealed, thawed, updated,
 };
+use core_events::CoreReply;
 use core_parts::{CorePart, KeyedEvent, Shape};
 use event_spec::Event;
 use hall_rule::{Hand, Steps};

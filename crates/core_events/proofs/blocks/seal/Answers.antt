@@ -5,7 +5,6 @@ use Rattle.core_events.proofs.Alone.{seal_makes, room_taken}
 use Rattle.core_parts.proofs.Telling.{has_body, has_head}
 use Rattle.core_laws.proofs.Events.Slots.{num_refl}
 use Rattle.event_spec.specs.declared.event.Event.TheVariants as event
-use Rattle.event_spec.specs.declared.reply.Reply.TheVariants as reply
 use Rattle.event_spec.specs.Parts.{BodyOf}
 use Rattle.core_laws.proofs.Frames.Looks.{name_self}
 use Rattle.core_events.proofs.blocks.seal.Goals as goal

@@ -1,4 +1,4 @@
-use Rattle.std.proofs.Common.{◌≡◌, ℕ, true, false, List, Option, is_some, sym, ap, ◌∙◌, refl, arith}
+use Rattle.std.proofs.Common.{◌≡◌, ℕ, true, List, Option, is_some, sym, ap, ◌∙◌, refl, arith}
 use Rattle.block_spec.specs.Slots.{Row, seen}
 use Rattle.event_spec.specs.Judged.{first_at}
 use Rattle.event_spec.specs.Parts.{slot_at}
