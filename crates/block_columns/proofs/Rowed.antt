@@ -13,9 +13,8 @@ use Rattle.cell_model.specs.declared.column.Column.{Column}
 use Rattle.cell_model.specs.declared.kind.Kind.TheVariants as kind
 use Rattle.block_columns.specs.Cells.{ColumnValue}
 use Rattle.block_columns.specs.Columns.{AreColumns, CellFits, ColumnsValue, IsLonger, cell_of, cells_at, columns_in, row_in, rows_in, with_row}
-use Rattle.block_spec.specs.declared.change.Change.TheVariants as change
 use Rattle.block_spec.specs.Fitting.{columns_of, unnamed}
-use Rattle.block_spec.specs.Slots.{Row, image_before, laid_back}
+use Rattle.block_spec.specs.Slots.{Row}
 use Rattle.block_columns.proofs.Slots.{set_same, with_row-long}
 use Rattle.block_columns.proofs.Tables.{range_same, set_slot}
 
@@ -47,11 +46,6 @@ has_bit false row h = cc
 pub bit_has : (bit : Bool) (row : List Cell) → bit ≡ true → IsSome (cond bit (Some row) None)
 bit_has true row h = refl
 bit_has false row h = cc
-
--- where it is not there the bit is not
-pub no_bit : (bit : Bool) (row : List Cell) → cond bit (Some row) None ≡ None → bit ≡ false
-no_bit true row h = cc
-no_bit false row h = refl
 
 -- a slot with a row is among those with memory
 pub bit_within : (taken : List Bool) (at : ℕ) → get_or taken at false ≡ true → at < length taken
@@ -95,12 +89,6 @@ row_here taken cs slots at value view are some =
     let seen : get_or value.rows at None ≡ row_in taken cs at = ap (λ (v : ColumnsValue). get_or v.rows at None) (sym view) ∙ row_at taken cs slots at are in
     let bit : get_or taken at false ≡ true = has_bit (get_or taken at false) (cells_at at cs) (subst (λ (o : Option (List Cell)). IsSome o) seen some) in
     (bit, seen ∙ ap (λ b. cond b (Some (cells_at at cs)) None) bit)
-
--- a slot that is seen without a row has no bit
-pub row_none : (taken : List Bool) (cs : List ColumnValue) (slots at : ℕ) (value : ColumnsValue) → seen_as taken cs slots ≡ value → AreColumns taken cs slots → get_or value.rows at None ≡ None
-    → get_or taken at false ≡ false
-row_none taken cs slots at value view are none =
-    no_bit (get_or taken at false) (cells_at at cs) (sym (row_at taken cs slots at are) ∙ ap (λ (v : ColumnsValue). get_or v.rows at None) view ∙ none)
 
 -- each column has memory for each slot that has a bit, set or not
 pub room_all : (taken : List Bool) (cs : List ColumnValue) (slots at : ℕ) → AreColumns taken cs slots → at < length taken → All (λ c. at < length c.cells) cs
@@ -265,11 +253,6 @@ extended (Err e) bits taken n ok err = ((λ i. ap (λ (l : List Bool). get_or l 
 pub new_names : (ds : List Column) → columns_in (map (λ (c : Column). let r : ColumnValue = record { column = record c { name = [] }; cells = [] } in r) ds) ≡ columns_of ds
 new_names [] = refl
 new_names (d ∷ ds) = ap (λ (l : List Column). unnamed d ∷ l) (new_names ds)
-
--- what a clear took is laid back on nothing
-pub laid_again : (row : Option Row) → laid_back None (image_before row change.Gone) ≡ row
-laid_again None = refl
-laid_again (Some r) = refl
 
 -- a column's cell in a slot is its row's
 pub column_cell : (taken : List Bool) (cs : List ColumnValue) (slots column slot : ℕ) (d : ColumnValue) → AreColumns taken cs slots → column < length cs

@@ -83,19 +83,6 @@ impl ColumnCells {
         self.store.lay(self.kind, at, cell);
     }
 
-    /// Writes a copy of a cell in a slot. Without memory the cells stay.
-    pub fn write(&mut self, alloc: Global, at: usize, cell: &Cell) -> Result<(), AllocError>
-        requires slot { IsSlotOf self.old.column.kind cell.now }
-        requires at { at < length self.old.cells }
-        ensures ok { OnOk result (self.new
-            ≡ record self.old { cells = slice_set self.old.cells at cell.now }) }
-        ensures err { OnErr result (self.new ≡ self.old) }
-    {
-        self.store.write(alloc, self.kind, at, cell)?;
-        self.valid.set(at, !cell.is_null());
-        Ok(())
-    }
-
     /// Whether the cell of a slot is null.
     pub fn is_null(&self, at: usize) -> bool
         requires { at < length self.now.cells }

@@ -17,7 +17,7 @@ ghost use Rattle.block_columns.specs.Columns.{WantsRow, cell_of};
 
 use crate::cells::ColumnCells;
 use crate::patches::{exchange_patch, lay_patch};
-use crate::rows::{fill_row, lay_row, lengthen, read_row, take_row, wipe};
+use crate::rows::{lay_row, lengthen, read_row, take_row, wipe};
 use block_spec::{Before, Patch};
 use cell_model::{Cell, Row, Schema};
 use flat_column::Bits;
@@ -196,15 +196,14 @@ impl Columns {
         self.taken.extend(room - len)
     }
 
-    /// Puts a copy of a row in a slot, and hands out what stood there. Without memory the rows
-    /// stay.
-    pub fn put(&mut self, slot: u32, row: &Row) -> Result<Before, AllocError>
+    /// Puts a row in a slot, moved, and hands out what stood there. Without memory the rows stay.
+    pub fn put(&mut self, slot: u32, row: Row) -> Result<Before, AllocError>
         requires slot { slot < length self.old.rows }
-        requires fits { Fits self.old.columns row.now }
+        requires fits { Fits self.old.columns row }
         ensures before { IfOk result (λ before. before
-            ≡ image_before (slice_index_or self.old.rows slot None) (change.Put row.now)) }
+            ≡ image_before (slice_index_or self.old.rows slot None) (change.Put row)) }
         ensures fits { IfOk result (BeforeFits self.old.columns) }
-        ensures ok { OnOk result (self.new.rows ≡ slice_set self.old.rows slot (Some row.now)) }
+        ensures ok { OnOk result (self.new.rows ≡ slice_set self.old.rows slot (Some row)) }
         ensures err { OnErr result (self.new.rows ≡ self.old.rows) }
         ensures columns { self.new.columns ≡ self.old.columns }
         ensures room { self.old.room ≤ self.new.room }
@@ -212,36 +211,32 @@ impl Columns {
     {
         self.reserve(slot)?;
         let before = self.clear(slot)?;
-        match self.fill(slot, row.as_slice()) {
-            Ok(()) => Ok(before),
-            Err(error) => {
-                self.restore(slot, before);
-                Err(error)
-            }
-        }
+        self.lay(slot, row);
+        Ok(before)
     }
 
-    /// Puts copies of the cells of a patch in the row of a slot, and hands out what stood in their
+    /// Puts the cells of a patch in the row of a slot, moved, and hands out what stood in their
     /// columns. Without memory the rows stay.
-    pub fn patch(&mut self, slot: u32, patch: &Patch) -> Result<Before, AllocError>
+    pub fn patch(&mut self, slot: u32, patch: Patch) -> Result<Before, AllocError>
         requires slot { IsSome (slice_index_or self.old.rows slot None) }
-        requires fits { PatchFits self.old.columns patch.now }
+        requires fits { PatchFits self.old.columns patch }
         ensures before { IfOk result (λ before. before
-            ≡ image_before (slice_index_or self.old.rows slot None) (change.Patch patch.now)) }
+            ≡ image_before (slice_index_or self.old.rows slot None) (change.Patch patch)) }
         ensures fits { IfOk result (BeforeFits self.old.columns) }
         ensures ok { OnOk result (self.new.rows ≡
             slice_set self.old.rows slot (row_after (slice_index_or self.old.rows slot None)
-            (change.Patch patch.now))) }
+            (change.Patch patch))) }
         ensures err { OnErr result (self.new.rows ≡ self.old.rows) }
         ensures columns { self.new.columns ≡ self.old.columns }
         ensures room { self.new.room ≡ self.old.room }
     {
         let at = slot as usize;
+        let mut assignments = patch.into_vec();
         let before = exchange_patch(
             self.alloc,
             self.columns.as_mut_slice(),
             at,
-            patch.as_slice(),
+            assignments.as_mut_slice(),
         )?;
         Ok(Before::Part(Patch::from(before)))
     }
@@ -298,23 +293,6 @@ impl Columns {
             taken: self.taken.clone()?,
             columns,
         })
-    }
-
-    /// Writes copies of the cells of a row in a slot that has memory and no row. Without memory the
-    /// rows stay.
-    fn fill(&mut self, slot: u32, cells: &[Cell]) -> Result<(), AllocError>
-        requires slot { slot < self.old.room }
-        requires none { slice_index_or self.old.rows slot None ≡ None }
-        requires fits { Fits self.old.columns cells.now }
-        ensures ok { OnOk result (self.new.rows ≡ slice_set self.old.rows slot (Some cells.now)) }
-        ensures err { OnErr result (self.new.rows ≡ self.old.rows) }
-        ensures columns { self.new.columns ≡ self.old.columns }
-        ensures room { self.new.room ≡ self.old.room }
-    {
-        let at = slot as usize;
-        fill_row(self.alloc, self.columns.as_mut_slice(), at, cells)?;
-        self.taken.set(at, true);
-        Ok(())
     }
 
     /// Leaves a slot without a row.

@@ -15,57 +15,49 @@ use cell_model::Cell;
 use std::alloc::{AllocError, Global};
 use std::mem;
 
-/// Puts a copy of a cell in a slot, and hands out the cell that stood there. Without memory nothing
-/// changes.
+/// Puts a cell in a slot, and hands out the cell that stood there. Without memory nothing changes.
 fn exchange(
     alloc: Global,
     column: &mut ColumnCells,
     at: usize,
-    cell: &Cell,
+    cell: Cell,
 ) -> Result<Cell, AllocError>
-    requires slot { IsSlotOf column.old.column.kind cell.now }
+    requires slot { IsSlotOf column.old.column.kind cell }
     requires at { at < length column.old.cells }
     ensures taken { IfOk result (λ old. old ≡ cell_in at column.old) }
-    ensures ok { OnOk result (column.new ≡ with_cell at column.old cell.now) }
+    ensures ok { OnOk result (column.new ≡ with_cell at column.old cell) }
     ensures err { OnErr result (column.new ≡ column.old) }
 {
     let spare = column.spare(alloc, at)?;
     let old = column.take(at, spare);
-    match column.write(alloc, at, cell) {
-        Ok(()) => Ok(old),
-        Err(error) => {
-            column.lay(at, old);
-            Err(error)
-        }
-    }
+    column.lay(at, cell);
+    Ok(old)
 }
 
-/// Puts copies of the cells of a patch, and hands out what stood in their columns. Without memory
-/// nothing changes.
+/// Puts the cells of a patch, moved out of the list, and hands out what stood in their columns.
+/// Without memory the columns stay.
 pub fn exchange_patch(
     alloc: Global,
     columns: &mut [ColumnCells],
     at: usize,
-    patch: &[Assignment],
+    patch: &mut [Assignment],
 ) -> Result<Vec<Assignment>, AllocError>
-    requires fits { PatchFits (columns_in columns.old) patch.now }
+    requires fits { PatchFits (columns_in columns.old) patch.old }
     requires slot { AllZip CellFits (columns_in columns.old) (cells_at at columns.old) }
     requires at { All (λ c. at < length c.cells) columns.old }
     ensures before { IfOk result (λ before. before.items
-        ≡ columns_before (cells_at at columns.old) patch.now) }
+        ≡ columns_before (cells_at at columns.old) patch.old) }
     ensures ok { OnOk result (columns.new
-        ≡ with_row at columns.old (patched (cells_at at columns.old) patch.now)) }
+        ≡ with_row at columns.old (patched (cells_at at columns.old) patch.old)) }
     ensures err { OnErr result (columns.new ≡ columns.old) }
 {
     let mut before = Vec::with_capacity(alloc, patch.len())?;
     for i in 0..patch.len() {
-        let assignment = &patch[i];
-        let place = assignment.column as usize;
-        match exchange(alloc, &mut columns[place], at, &assignment.cell) {
-            Ok(cell) => before.push_reserved(Assignment {
-                column: assignment.column,
-                cell,
-            }),
+        let assignment = &mut patch[i];
+        let cell = mem::replace(&mut assignment.cell, Cell::Null);
+        let column = assignment.column;
+        match exchange(alloc, &mut columns[column as usize], at, cell) {
+            Ok(cell) => before.push_reserved(Assignment { column, cell }),
             Err(error) => {
                 lay_patch(columns, at, before.as_mut_slice());
                 return Err(error);

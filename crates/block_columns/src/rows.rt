@@ -1,4 +1,4 @@
-//! The cells of one slot in all columns: how a row is written, laid, wiped and read.
+//! The cells of one slot in all columns: how a row is laid, wiped, read and taken.
 ghost use Rattle.std.specs.Prelude.{◌≡◌, ◌<◌, ◌≤◌, All, IfOk, OnOk, OnErr, length};
 ghost use Rattle.std.specs.List.{AllZip};
 ghost use Rattle.cell_model.specs.declared.cell.Cell.TheVariants as cell;
@@ -9,48 +9,6 @@ use crate::cells::ColumnCells;
 use cell_model::Cell;
 use std::alloc::{AllocError, Global};
 use std::mem;
-
-/// Writes copies of the cells in a slot. Without memory some are written.
-fn write_row(
-    alloc: Global,
-    columns: &mut [ColumnCells],
-    at: usize,
-    cells: &[Cell],
-) -> Result<(), AllocError>
-    requires fits { AllZip CellFits (columns_in columns.old) cells.now }
-    requires at { All (λ c. at < length c.cells) columns.old }
-    ensures ok { OnOk result (columns.new ≡ with_row at columns.old cells.now) }
-    ensures err { OnErr result (wiped at columns.new ≡ wiped at columns.old) }
-    ensures room { OnErr result (All (λ c. at < length c.cells) columns.new) }
-{
-    for i in 0..columns.len() {
-        let column = &mut columns[i];
-        column.write(alloc, at, &cells[i])?;
-    }
-    Ok(())
-}
-
-/// Writes copies of the cells in a slot of nulls. Without memory nothing changes.
-pub fn fill_row(
-    alloc: Global,
-    columns: &mut [ColumnCells],
-    at: usize,
-    cells: &[Cell],
-) -> Result<(), AllocError>
-    requires fits { AllZip CellFits (columns_in columns.old) cells.now }
-    requires at { All (λ c. at < length c.cells) columns.old }
-    requires bare { All (λ old. old ≡ cell.Null) (cells_at at columns.old) }
-    ensures ok { OnOk result (columns.new ≡ with_row at columns.old cells.now) }
-    ensures err { OnErr result (columns.new ≡ columns.old) }
-{
-    match write_row(alloc, columns, at, cells) {
-        Ok(()) => Ok(()),
-        Err(error) => {
-            wipe(columns, at);
-            Err(error)
-        }
-    }
-}
 
 /// Lays the cells in a slot, moved out of the list.
 pub fn lay_row(columns: &mut [ColumnCells], at: usize, cells: &mut [Cell])

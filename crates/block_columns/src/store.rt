@@ -79,31 +79,6 @@ impl Store {
         }
     }
 
-    /// Puts a copy of the value of a cell. Without memory nothing changes.
-    pub fn write(
-        &mut self,
-        alloc: Global,
-        kind: Kind,
-        at: usize,
-        value: &Cell,
-    ) -> Result<(), AllocError>
-        requires known { IsStoreOf kind self.old }
-        requires slot { IsSlotOf kind value.now }
-        requires at { at < stored_length self.old }
-        ensures known { IsStoreOf kind self.new }
-        ensures ok { OnOk result ((cells : List CellValue) → Stores self.old cells →
-            Stores self.new (slice_set cells at value.now)) }
-        ensures err { OnErr result ((cells : List CellValue) → Stores self.old cells →
-            Stores self.new cells) }
-    {
-        match self {
-            Store::Numbers(numbers) => numbers.set(at, number_of(value)),
-            Store::Truths(truths) => truths.set(at, truth_of(value)),
-            Store::Values(values) => values[at] = Value::copied(alloc, value_of(value))?,
-        }
-        Ok(())
-    }
-
     /// Puts the value of a null, and moves the value out that has bytes of its own.
     pub fn clear(&mut self, at: usize) -> Option<Bytes>
         requires at { at < stored_length self.old }

@@ -43,22 +43,6 @@ impl Value {
         }
     }
 
-    /// A copy of the bytes.
-    pub fn copied(alloc: Global, bytes: &[u8]) -> Result<Value, AllocError>
-        requires { length bytes.now < 2 ^ 32 }
-        ensures { IfOk result (λ v. v ≡ bytes.now) }
-    {
-        if bytes.len() <= Entry::INLINE {
-            Ok(Value {
-                stored: Stored::Inline(Entry::of(bytes, 0)),
-            })
-        } else {
-            Ok(Value {
-                stored: Stored::Owned(Bytes::from_slice(alloc, bytes)?),
-            })
-        }
-    }
-
     /// The same bytes again.
     pub fn copy(&self, alloc: Global) -> Result<Value, AllocError>
         ensures { IfOk result (λ v. v ≡ self.now) }
