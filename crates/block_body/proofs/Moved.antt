@@ -5,7 +5,6 @@ use Rattle.std.proofs.lemmas.Bool.{cases_lt}
 use Rattle.std.proofs.lemmas.List.{get_or-set_same, get_or_past, set-set, set-get_or}
 use Rattle.isolation_spec.specs.Contents.{key_of}
 use Rattle.block_spec.specs.declared.change.Before.{Before}
-use Rattle.block_spec.specs.declared.change.Change.{Change}
 use Rattle.block_spec.specs.declared.change.Change.TheVariants as change
 use Rattle.block_spec.specs.Slots.{Row, Slot, bare, is_bare, has_none, image_before, laid_back, taken_back}
 use Rattle.block_spec.specs.Bodies.{Body as BodyValue, slot_in, with_slot}

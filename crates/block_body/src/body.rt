@@ -221,7 +221,7 @@ impl Body {
             stamp: None,
             kind: kind_of(&change),
         };
-        self.change(slot, by, &change)
+        self.change(slot, by, change)
     }
 
     /// Takes the row of a slot without an entry away, with a move's stamp, and hands out a copy.
@@ -242,7 +242,7 @@ impl Body {
             stamp: Some(stamp),
             kind: UndoKind::MoveOut,
         };
-        self.change(slot, by, &Change::Gone)?;
+        self.change(slot, by, Change::Gone)?;
         let Some(row) = self.taken_away(slot) else {
             unreachable!()
         };
@@ -257,8 +257,8 @@ impl Body {
         }
     }
 
-    /// Puts a copy of a row in a bare slot, with a move's stamp. The block is modified by it, but
-    /// for want of memory, which leaves the body as it is.
+    /// Puts a row in a bare slot, with a move's stamp. The block is modified by it, but for want of
+    /// memory, which leaves the body as it is.
     pub fn move_in(&mut self, slot: u32, row: Row, stamp: u64) -> Result<(), AllocError>
         requires loose { is_loose self.old.phase ≡ true }
         requires slot { slot < length self.old.slots }
@@ -272,7 +272,7 @@ impl Body {
             stamp: Some(stamp),
             kind: UndoKind::MoveIn,
         };
-        self.change(slot, by, &Change::Put(row))
+        self.change(slot, by, Change::Put(row))
     }
 
     /// Takes one half of a move back: the newest entry of a slot is laid back and dropped. The
@@ -454,14 +454,14 @@ impl Body {
 
     /// Changes a slot's row and lays the entry on top that undoes it. The block is modified by it,
     /// but for want of memory, which leaves the body as it is.
-    fn change(&mut self, slot: u32, by: Origin, change: &Change) -> Result<(), AllocError>
+    fn change(&mut self, slot: u32, by: Origin, change: Change) -> Result<(), AllocError>
         requires loose { is_loose self.old.phase ≡ true }
         requires slot { slot < length self.old.slots }
-        requires row { is_some (slot_in self.old slot).row ≡ wants_row change.now }
-        requires fits { ChangeFits self.old.columns change.now }
+        requires row { is_some (slot_in self.old slot).row ≡ wants_row change }
+        requires fits { ChangeFits self.old.columns change }
         requires lawful { IsLawful (slot_in self.old slot).entries →
-            IsLawful (changed by change.now (slot_in self.old slot)).entries }
-        ensures ok { OnOk result (self.new ≡ with_slot slot (changed by change.now) self.old) }
+            IsLawful (changed by change (slot_in self.old slot)).entries }
+        ensures ok { OnOk result (self.new ≡ with_slot slot (changed by change) self.old) }
         ensures err { OnErr result (self.new ≡ self.old) }
     {
         self.written.add(&by, slot)?;

@@ -165,17 +165,17 @@ impl Rows {
 
     /// Makes a write's change of a slot, and hands out what undoes it. Without memory the rows
     /// stay.
-    pub fn write(&mut self, slot: u32, change: &Change) -> Result<Before, AllocError>
+    pub fn write(&mut self, slot: u32, change: Change) -> Result<Before, AllocError>
         requires own { self.old.image ≡ None }
         requires slot { slot < length self.old.rows }
-        requires row { is_some (slice_index_or self.old.rows slot None) ≡ wants_row change.now }
-        requires fits { ChangeFits self.old.columns change.now }
+        requires row { is_some (slice_index_or self.old.rows slot None) ≡ wants_row change }
+        requires fits { ChangeFits self.old.columns change }
         ensures before { IfOk result (λ before. before
-            ≡ image_before (slice_index_or self.old.rows slot None) change.now) }
+            ≡ image_before (slice_index_or self.old.rows slot None) change) }
         ensures fits { IfOk result (BeforeFits self.old.columns) }
         ensures ok { OnOk result (self.new.rows ≡
             slice_set self.old.rows slot (row_after (slice_index_or self.old.rows slot None)
-            change.now)) }
+            change)) }
         ensures err { OnErr result (self.new.rows ≡ self.old.rows) }
         ensures columns { self.new.columns ≡ self.old.columns }
         ensures room { self.old.room ≤ self.new.room }
@@ -189,17 +189,17 @@ impl Rows {
         }
     }
 
-    /// Puts a copy of a row in a slot that has none, and hands out that there was none. Without
-    /// memory the rows stay.
-    pub fn put(&mut self, slot: u32, row: &Row) -> Result<Before, AllocError>
+    /// Puts a row in a slot that has none, moved, and hands out that there was none. Without memory
+    /// the rows stay.
+    pub fn put(&mut self, slot: u32, row: Row) -> Result<Before, AllocError>
         requires own { self.old.image ≡ None }
         requires slot { slot < length self.old.rows }
         requires none { slice_index_or self.old.rows slot None ≡ None }
-        requires fits { Fits self.old.columns row.now }
+        requires fits { Fits self.old.columns row }
         ensures before { IfOk result (λ before. before
-            ≡ image_before (slice_index_or self.old.rows slot None) (change.Put row.now)) }
+            ≡ image_before (slice_index_or self.old.rows slot None) (change.Put row)) }
         ensures fits { IfOk result (BeforeFits self.old.columns) }
-        ensures ok { OnOk result (self.new.rows ≡ slice_set self.old.rows slot (Some row.now)) }
+        ensures ok { OnOk result (self.new.rows ≡ slice_set self.old.rows slot (Some row)) }
         ensures err { OnErr result (self.new.rows ≡ self.old.rows) }
         ensures columns { self.new.columns ≡ self.old.columns }
         ensures room { self.old.room ≤ self.new.room }
@@ -216,19 +216,19 @@ impl Rows {
         Ok(before)
     }
 
-    /// Puts copies of the cells of a patch in the row of a slot, and hands out what stood in their
+    /// Puts the cells of a patch in the row of a slot, moved, and hands out what stood in their
     /// columns. Without memory the rows stay.
-    pub fn patch(&mut self, slot: u32, patch: &Patch) -> Result<Before, AllocError>
+    pub fn patch(&mut self, slot: u32, patch: Patch) -> Result<Before, AllocError>
         requires own { self.old.image ≡ None }
         requires within { slot < length self.old.rows }
         requires slot { IsSome (slice_index_or self.old.rows slot None) }
-        requires fits { PatchFits self.old.columns patch.now }
+        requires fits { PatchFits self.old.columns patch }
         ensures before { IfOk result (λ before. before
-            ≡ image_before (slice_index_or self.old.rows slot None) (change.Patch patch.now)) }
+            ≡ image_before (slice_index_or self.old.rows slot None) (change.Patch patch)) }
         ensures fits { IfOk result (BeforeFits self.old.columns) }
         ensures ok { OnOk result (self.new.rows ≡
             slice_set self.old.rows slot (row_after (slice_index_or self.old.rows slot None)
-            (change.Patch patch.now))) }
+            (change.Patch patch))) }
         ensures err { OnErr result (self.new.rows ≡ self.old.rows) }
         ensures columns { self.new.columns ≡ self.old.columns }
         ensures room { self.old.room ≤ self.new.room }

@@ -43,7 +43,7 @@ write-requires-clause-row c =
     let i = c.self.inside in
     let at : slot_in c.args.self.now c.args.slot ≡ slot_at i.rows.rows i.chains.entries c.args.slot =
     ap (λ (b : BodyValue). slot_in b c.args.slot) (sym c.self.view_is) ∙ body_slot i.rows i.chains.entries i.written i.phase i.cooling i.rounds i.last c.self.invariant c.args.slot in
-    let has : is_some (get_or i.rows.rows c.args.slot None) ≡ wants_row c.args.change.now = ap (λ (s : Slot). is_some s.row) (sym at) ∙ c.requires.row in
+    let has : is_some (get_or i.rows.rows c.args.slot None) ≡ wants_row c.args.change = ap (λ (s : Slot). is_some s.row) (sym at) ∙ c.requires.row in
     has
 
 pub push-requires-clause-lawful : goal.push-requires-clause-lawful
@@ -52,7 +52,7 @@ push-requires-clause-lawful c =
     let at : slot_in c.args.self.now c.args.slot ≡ slot_at i.rows.rows i.chains.entries c.args.slot =
     ap (λ (b : BodyValue). slot_in b c.args.slot) (sym c.self.view_is) ∙ body_slot i.rows i.chains.entries i.written i.phase i.cooling i.rounds i.last c.self.invariant c.args.slot in
     subst (λ (b : Before). IsLawful (undo_of c.args.by b ∷ entries_at i.chains.entries c.args.slot)) (sym c.in_ok-before.ensures.before)
-    (subst (λ (s : Slot). IsLawful (changed c.args.by c.args.change.now s).entries) at
+    (subst (λ (s : Slot). IsLawful (changed c.args.by c.args.change s).entries) at
     (c.requires.lawful (subst (λ (s : Slot). IsLawful s.entries) (sym at) (lawful_at i.chains.entries c.self.invariant.each c.args.slot))))
 
 pub invariant_of-self-in-Ok : goal.invariant_of-self-in-Ok
@@ -62,14 +62,14 @@ invariant_of-self-in-Ok c =
     (ap (λ (b : BodyValue). length b.slots) (sym c.self.view_is) ∙ slots-length (entries_at i.chains.entries) 0 i.rows.rows) c.requires.slot in
     let at : slot_in c.args.self.now c.args.slot ≡ slot_at i.rows.rows i.chains.entries c.args.slot =
     ap (λ (b : BodyValue). slot_in b c.args.slot) (sym c.self.view_is) ∙ body_slot i.rows i.chains.entries i.written i.phase i.cooling i.rounds i.last c.self.invariant c.args.slot in
-    let has : is_some (get_or i.rows.rows c.args.slot None) ≡ wants_row c.args.change.now = ap (λ (s : Slot). is_some s.row) (sym at) ∙ c.requires.row in
+    let has : is_some (get_or i.rows.rows c.args.slot None) ≡ wants_row c.args.change = ap (λ (s : Slot). is_some s.row) (sym at) ∙ c.requires.row in
     let loose : is_loose i.phase ≡ true = ap (λ (b : BodyValue). is_loose b.phase) c.self.view_is ∙ c.requires.loose in
-    let fits : ChangeFits i.rows.columns c.args.change.now = subst (λ (b : BodyValue). ChangeFits b.columns c.args.change.now) (sym c.self.view_is) c.requires.fits in
+    let fits : ChangeFits i.rows.columns c.args.change = subst (λ (b : BodyValue). ChangeFits b.columns c.args.change) (sym c.self.view_is) c.requires.fits in
     record {
       each = c.push.ensures.chains;
-      kept = installed_kept i.rows c.write.new.self i.chains.entries c.push.new.chains.entries c.args.slot c.args.by c.args.change.now c.in_ok-before.before long has c.in_ok-before.ensures.before c.in_ok-before.ensures.ok c.write.ensures.columns fits
+      kept = installed_kept i.rows c.write.new.self i.chains.entries c.push.new.chains.entries c.args.slot c.args.by c.args.change c.in_ok-before.before long has c.in_ok-before.ensures.before c.in_ok-before.ensures.ok c.write.ensures.columns fits
           c.self.invariant.kept c.in-Ok.ensures.here c.push.ensures.others c.write.ensures.room c.in_ok-before.ensures.within c.in_ok-before.ensures.fits;
-      listed = installed_listed i.rows c.write.new.self i.chains.entries c.push.new.chains.entries c.args.slot c.args.by c.args.change.now c.in_ok-before.before long has c.in_ok-before.ensures.before c.in_ok-before.ensures.ok c.write.ensures.columns fits
+      listed = installed_listed i.rows c.write.new.self i.chains.entries c.push.new.chains.entries c.args.slot c.args.by c.args.change c.in_ok-before.before long has c.in_ok-before.ensures.before c.in_ok-before.ensures.ok c.write.ensures.columns fits
           c.self.invariant.kept c.in-Ok.ensures.here c.push.ensures.others c.write.ensures.room c.in_ok-before.ensures.within c.in_ok-before.ensures.fits
           i.written c.add.new.self c.self.invariant.listed c.in_ok-add.ensures.added c.add.ensures.more;
       quiet = λ frozen. absurd (not_frozen (is_loose i.phase) loose frozen);
@@ -85,16 +85,16 @@ returns-in-Ok-clause-ok c =
     (ap (λ (b : BodyValue). length b.slots) (sym c.self.view_is) ∙ slots-length (entries_at i.chains.entries) 0 i.rows.rows) c.requires.slot in
     let at : slot_in c.args.self.now c.args.slot ≡ slot_at i.rows.rows i.chains.entries c.args.slot =
     ap (λ (b : BodyValue). slot_in b c.args.slot) (sym c.self.view_is) ∙ body_slot i.rows i.chains.entries i.written i.phase i.cooling i.rounds i.last c.self.invariant c.args.slot in
-    let has : is_some (get_or i.rows.rows c.args.slot None) ≡ wants_row c.args.change.now = ap (λ (s : Slot). is_some s.row) (sym at) ∙ c.requires.row in
+    let has : is_some (get_or i.rows.rows c.args.slot None) ≡ wants_row c.args.change = ap (λ (s : Slot). is_some s.row) (sym at) ∙ c.requires.row in
     let loose : is_loose i.phase ≡ true = ap (λ (b : BodyValue). is_loose b.phase) c.self.view_is ∙ c.requires.loose in
-    let fits : ChangeFits i.rows.columns c.args.change.now = subst (λ (b : BodyValue). ChangeFits b.columns c.args.change.now) (sym c.self.view_is) c.requires.fits in
+    let fits : ChangeFits i.rows.columns c.args.change = subst (λ (b : BodyValue). ChangeFits b.columns c.args.change) (sym c.self.view_is) c.requires.fits in
     let B : BodyValue = body_value i.rows i.chains.entries i.phase i.cooling i.rounds i.last in
     rw (← c.self.view_is)
     (ap (λ (columns : List Column). let b : BodyValue = record { columns = columns; slots = slots_from (entries_at c.push.new.chains.entries) 0 c.write.new.self.rows; phase = i.phase; cooling = false; rounds = 0; last = i.last } in b) c.write.ensures.columns
     ∙ ap (λ (slots : List Slot). record (modified B) { slots = slots })
-    (installed_slots i.rows c.write.new.self i.chains.entries c.push.new.chains.entries c.args.slot c.args.by c.args.change.now c.in_ok-before.before long has c.in_ok-before.ensures.before c.in_ok-before.ensures.ok c.write.ensures.columns fits
+    (installed_slots i.rows c.write.new.self i.chains.entries c.push.new.chains.entries c.args.slot c.args.by c.args.change c.in_ok-before.before long has c.in_ok-before.ensures.before c.in_ok-before.ensures.ok c.write.ensures.columns fits
     c.self.invariant.kept c.in-Ok.ensures.here c.push.ensures.others c.write.ensures.room c.in_ok-before.ensures.within c.in_ok-before.ensures.fits
-    ∙ ap (λ (s : Slot). slice_set (slots_from (entries_at i.chains.entries) 0 i.rows.rows) c.args.slot (changed c.args.by c.args.change.now s))
+    ∙ ap (λ (s : Slot). slice_set (slots_from (entries_at i.chains.entries) 0 i.rows.rows) c.args.slot (changed c.args.by c.args.change s))
     (sym (body_slot i.rows i.chains.entries i.written i.phase i.cooling i.rounds i.last c.self.invariant c.args.slot))))
 
 pub restore-requires-clause-long : goal.restore-requires-clause-long
@@ -104,10 +104,10 @@ restore-requires-clause-long c =
     (ap (λ (b : BodyValue). length b.slots) (sym c.self.view_is) ∙ slots-length (entries_at i.chains.entries) 0 i.rows.rows) c.requires.slot in
     let at : slot_in c.args.self.now c.args.slot ≡ slot_at i.rows.rows i.chains.entries c.args.slot =
     ap (λ (b : BodyValue). slot_in b c.args.slot) (sym c.self.view_is) ∙ body_slot i.rows i.chains.entries i.written i.phase i.cooling i.rounds i.last c.self.invariant c.args.slot in
-    let has : is_some (get_or i.rows.rows c.args.slot None) ≡ wants_row c.args.change.now = ap (λ (s : Slot). is_some s.row) (sym at) ∙ c.requires.row in
+    let has : is_some (get_or i.rows.rows c.args.slot None) ≡ wants_row c.args.change = ap (λ (s : Slot). is_some s.row) (sym at) ∙ c.requires.row in
     let loose : is_loose i.phase ≡ true = ap (λ (b : BodyValue). is_loose b.phase) c.self.view_is ∙ c.requires.loose in
-    let fits : ChangeFits i.rows.columns c.args.change.now = subst (λ (b : BodyValue). ChangeFits b.columns c.args.change.now) (sym c.self.view_is) c.requires.fits in
-    subst (λ n. c.args.slot < n) (sym (rows_long i.rows c.write.new.self i.chains.entries c.push.new.chains.entries c.args.slot c.args.by c.args.change.now c.in_ok-before.before long has c.in_ok-before.ensures.before c.in_ok-before.ensures.ok c.write.ensures.columns fits)) long
+    let fits : ChangeFits i.rows.columns c.args.change = subst (λ (b : BodyValue). ChangeFits b.columns c.args.change) (sym c.self.view_is) c.requires.fits in
+    subst (λ n. c.args.slot < n) (sym (rows_long i.rows c.write.new.self i.chains.entries c.push.new.chains.entries c.args.slot c.args.by c.args.change c.in_ok-before.before long has c.in_ok-before.ensures.before c.in_ok-before.ensures.ok c.write.ensures.columns fits)) long
 
 pub invariant_of-self-in-Err : goal.invariant_of-self-in-Err
 invariant_of-self-in-Err c =
@@ -116,11 +116,11 @@ invariant_of-self-in-Err c =
     (ap (λ (b : BodyValue). length b.slots) (sym c.self.view_is) ∙ slots-length (entries_at i.chains.entries) 0 i.rows.rows) c.requires.slot in
     let at : slot_in c.args.self.now c.args.slot ≡ slot_at i.rows.rows i.chains.entries c.args.slot =
     ap (λ (b : BodyValue). slot_in b c.args.slot) (sym c.self.view_is) ∙ body_slot i.rows i.chains.entries i.written i.phase i.cooling i.rounds i.last c.self.invariant c.args.slot in
-    let has : is_some (get_or i.rows.rows c.args.slot None) ≡ wants_row c.args.change.now = ap (λ (s : Slot). is_some s.row) (sym at) ∙ c.requires.row in
+    let has : is_some (get_or i.rows.rows c.args.slot None) ≡ wants_row c.args.change = ap (λ (s : Slot). is_some s.row) (sym at) ∙ c.requires.row in
     let loose : is_loose i.phase ≡ true = ap (λ (b : BodyValue). is_loose b.phase) c.self.view_is ∙ c.requires.loose in
-    let fits : ChangeFits i.rows.columns c.args.change.now = subst (λ (b : BodyValue). ChangeFits b.columns c.args.change.now) (sym c.self.view_is) c.requires.fits in
+    let fits : ChangeFits i.rows.columns c.args.change = subst (λ (b : BodyValue). ChangeFits b.columns c.args.change) (sym c.self.view_is) c.requires.fits in
     let same : c.in-Err.field-0.value.before ≡ c.in_ok-before.before = search rules in
-    let rows : c.restore.new.self.rows ≡ i.rows.rows = rows_back i.rows c.write.new.self i.chains.entries c.push.new.chains.entries c.args.slot c.args.by c.args.change.now c.in_ok-before.before long has c.in_ok-before.ensures.before c.in_ok-before.ensures.ok c.write.ensures.columns fits c.restore.new.self.rows
+    let rows : c.restore.new.self.rows ≡ i.rows.rows = rows_back i.rows c.write.new.self i.chains.entries c.push.new.chains.entries c.args.slot c.args.by c.args.change c.in_ok-before.before long has c.in_ok-before.ensures.before c.in_ok-before.ensures.ok c.write.ensures.columns fits c.restore.new.self.rows
     (c.restore.ensures.rows ∙ ap (λ (b : Before). slice_set c.write.new.self.rows c.args.slot (laid_back (get_or c.write.new.self.rows c.args.slot None) b)) same) in
     let each : (k : ℕ) → entries_at c.push.new.chains.entries k ≡ entries_at i.chains.entries k = pointwise_same c.args.slot (entries_at i.chains.entries) (entries_at c.push.new.chains.entries) c.in-Err.ensures.same c.push.ensures.others in
     record {
@@ -141,12 +141,12 @@ returns-in-Err-clause-err c =
     (ap (λ (b : BodyValue). length b.slots) (sym c.self.view_is) ∙ slots-length (entries_at i.chains.entries) 0 i.rows.rows) c.requires.slot in
     let at : slot_in c.args.self.now c.args.slot ≡ slot_at i.rows.rows i.chains.entries c.args.slot =
     ap (λ (b : BodyValue). slot_in b c.args.slot) (sym c.self.view_is) ∙ body_slot i.rows i.chains.entries i.written i.phase i.cooling i.rounds i.last c.self.invariant c.args.slot in
-    let has : is_some (get_or i.rows.rows c.args.slot None) ≡ wants_row c.args.change.now = ap (λ (s : Slot). is_some s.row) (sym at) ∙ c.requires.row in
+    let has : is_some (get_or i.rows.rows c.args.slot None) ≡ wants_row c.args.change = ap (λ (s : Slot). is_some s.row) (sym at) ∙ c.requires.row in
     let loose : is_loose i.phase ≡ true = ap (λ (b : BodyValue). is_loose b.phase) c.self.view_is ∙ c.requires.loose in
-    let fits : ChangeFits i.rows.columns c.args.change.now = subst (λ (b : BodyValue). ChangeFits b.columns c.args.change.now) (sym c.self.view_is) c.requires.fits in
+    let fits : ChangeFits i.rows.columns c.args.change = subst (λ (b : BodyValue). ChangeFits b.columns c.args.change) (sym c.self.view_is) c.requires.fits in
     let B : BodyValue = body_value i.rows i.chains.entries i.phase i.cooling i.rounds i.last in
     let same : c.in-Err.field-0.value.before ≡ c.in_ok-before.before = search rules in
-    let rows : c.restore.new.self.rows ≡ i.rows.rows = rows_back i.rows c.write.new.self i.chains.entries c.push.new.chains.entries c.args.slot c.args.by c.args.change.now c.in_ok-before.before long has c.in_ok-before.ensures.before c.in_ok-before.ensures.ok c.write.ensures.columns fits c.restore.new.self.rows
+    let rows : c.restore.new.self.rows ≡ i.rows.rows = rows_back i.rows c.write.new.self i.chains.entries c.push.new.chains.entries c.args.slot c.args.by c.args.change c.in_ok-before.before long has c.in_ok-before.ensures.before c.in_ok-before.ensures.ok c.write.ensures.columns fits c.restore.new.self.rows
     (c.restore.ensures.rows ∙ ap (λ (b : Before). slice_set c.write.new.self.rows c.args.slot (laid_back (get_or c.write.new.self.rows c.args.slot None) b)) same) in
     let each : (k : ℕ) → entries_at c.push.new.chains.entries k ≡ entries_at i.chains.entries k = pointwise_same c.args.slot (entries_at i.chains.entries) (entries_at c.push.new.chains.entries) c.in-Err.ensures.same c.push.ensures.others in
     ap (λ (columns : List Column). record B { columns = columns; slots = slots_from (entries_at c.push.new.chains.entries) 0 c.restore.new.self.rows }) (c.restore.ensures.columns ∙ c.write.ensures.columns)
