@@ -74,7 +74,11 @@ rested_seat seat =
 
 abbrev pub rested : Session → Session
 rested s = record {
-  pass = record { seat = rested_seat s.pass.seat; hands = rested_hands s.pass.hands };
+  pass = record s.pass {
+    seat = rested_seat s.pass.seat;
+    hands = rested_hands s.pass.hands;
+    counted = s.pass.counted;
+  };
   session = s.session;
   snapshot = s.snapshot;
   writes = s.writes;
