@@ -1,17 +1,22 @@
 //! A caller that changes rows: one session inserts two rows, changes the one and deletes the other,
 //! and another session that met it finds what is left.
-ghost use Rattle.std.specs.Prelude.{◌≡◌, ◌≢◌, ◌+◌, ◌<◌, IfOk, length, true};
+ghost use Rattle.std.specs.Prelude.{◌≡◌, ◌≢◌, ◌+◌, ◌<◌, ◌↔◌, IfOk, length, true};
 ghost use Rattle.isolation_spec.specs.Contents.{key_of, place_of};
 ghost use Rattle.shared_store.specs.Open.{IsAtRest};
-ghost use Rattle.shared_store.specs.Store.{HasRoomFor, IsSession, MakesAtMost};
+ghost use Rattle.shared_store.specs.Store.{IsSession, MakesAtMost};
 ghost use Rattle.shared_store.specs.Store.{most_blocks_in_table, shape_in};
 ghost use Rattle.workload_spec.specs.Valid.{fits_table};
 ghost use Rattle.embedded.specs.Changing.{FindsChanges};
+ghost use Rattle.embedded.specs.Room.{HaveRoom};
+ghost use Rattle.embedded.specs.declared.NotHanded.TheVariants as not_handed;
 
-use crate::NotHanded;
+use crate::{NotHanded, has_room};
 use cell_model::{Row, Rows};
 use shared_store::{Session, Store};
 use std::sync::Wait;
+
+/// The most blocks of a table, each of which a scan reads by an event.
+const MOST_BLOCKS: u64 = 1 << 10;
 
 /// What two transactions found in a table, of which the first changed rows there.
 #[derive(Drop)]
@@ -35,8 +40,9 @@ pub struct Changed {
 ///
 /// # Errors
 ///
-/// A write is refused, or there is no memory for what is found. The first session's transaction
-/// stays open, or the second's where the first one's was committed.
+/// A session has no room left: then nothing is done. A write is refused, or there is no memory for
+/// what is found: then the first session's transaction stays open, or the second's where the first
+/// one's was committed.
 pub fn change_rows<R: Wait>(
     rt: &R,
     store: &Store,
@@ -52,8 +58,6 @@ pub fn change_rows<R: Wait>(
     requires two { IsSession store.now two.old }
     requires rests_one { IsAtRest one.old }
     requires rests_two { IsAtRest two.old }
-    requires room_one { HasRoomFor (most_blocks_in_table + 8) one.old }
-    requires room_two { HasRoomFor (most_blocks_in_table + 1) two.old }
     requires table { table < length (shape_in store.now).tables }
     requires fits_first { fits_table (shape_in store.now).tables table first ≡ true }
     requires fits_second { fits_table (shape_in store.now).tables table second ≡ true }
@@ -68,7 +72,14 @@ pub fn change_rows<R: Wait>(
     ensures rests { IfOk result (λ _. IsAtRest one.new) }
     ensures finds { IfOk result (FindsChanges store.now
         one.old two.old two.new table (place_of table first) (place_of table second) changed) }
+    ensures no_room { (result ≡ Err not_handed.NoRoom)
+        ↔ ¬ HaveRoom (most_blocks_in_table + 8) one.old (most_blocks_in_table + 1) two.old }
+    ensures unmoved { result ≡ Err not_handed.NoRoom
+        → (one.new ≡ one.old) × (two.new ≡ two.old) }
 {
+    if !has_room(one, MOST_BLOCKS + 8) || !has_room(two, MOST_BLOCKS + 1) {
+        return Err(NotHanded::NoRoom);
+    }
     let began = store.begin(rt, one).unwrap();
     store.insert(rt, one, table, first)?;
     store.insert(rt, one, table, second)?;

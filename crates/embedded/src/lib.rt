@@ -2,13 +2,14 @@
 //! that met it reads the row.
 #![tactic(auto)]
 
-ghost use Rattle.std.specs.Prelude.{◌≡◌, ◌<◌, IfOk, Some, length, true};
+ghost use Rattle.std.specs.Prelude.{◌≡◌, ◌<◌, ◌^◌, ◌↔◌, IfOk, IsTrue, Some, length, true};
 ghost use Rattle.isolation_spec.specs.Contents.{key_of, place_of};
 ghost use Rattle.shared_store.specs.Open.{IsAtRest};
 ghost use Rattle.shared_store.specs.Store.{HasRoomFor, IsSession, MakesAtMost, shape_in};
 ghost use Rattle.shared_store.specs.declared.faults.StoreFault.{StoreFault as FaultView};
 ghost use Rattle.workload_spec.specs.Valid.{fits_table};
 ghost use Rattle.embedded.specs.Handing.{HandsOver, HasWrittenNothing};
+ghost use Rattle.embedded.specs.Room.{HaveRoom};
 ghost use Rattle.embedded.specs.declared.NotHanded.TheVariants as not_handed;
 
 use cell_model::Row;
@@ -21,10 +22,13 @@ pub mod changing;
 #[cfg(test)]
 mod tests;
 
-/// Why a row was not handed over.
+/// Why rows were not handed over.
 #[derive(Clone, Copy, PartialEq, Eq, Debug, Error)]
 pub enum NotHanded {
-    /// It was not inserted.
+    /// A session has no room left for the events.
+    #[error("no room for the events")]
+    NoRoom,
+    /// A write was refused.
     #[error("{0}")]
     Refused(StoreFault),
     /// There was no memory for what was read.
@@ -48,6 +52,16 @@ impl From<AllocError> for NotHanded {
     }
 }
 
+/// A session makes fewer events than these.
+const MOST_EVENTS: u64 = 1 << 56;
+
+/// Whether a session may make so many events more.
+pub(crate) fn has_room(session: &Session, events: u64) -> bool
+    ensures { IsTrue result ↔ HasRoomFor events session.now }
+{
+    session.events().saturating_add(events) < MOST_EVENTS
+}
+
 /// A row that was handed over, as two transactions read it.
 #[derive(Drop)]
 pub struct Handed {
@@ -67,8 +81,8 @@ pub struct Handed {
 ///
 /// # Errors
 ///
-/// The insert is refused: then the first session's transaction is open and has written nothing. Or
-/// there is no memory for what is read.
+/// A session has no room left: then nothing is done. The insert is refused: then the first
+/// session's transaction is open and has written nothing. Or there is no memory for what is read.
 pub fn hand_over<R: Wait>(
     rt: &R,
     store: &Store,
@@ -82,8 +96,6 @@ pub fn hand_over<R: Wait>(
     requires two { IsSession store.now two.old }
     requires rests_one { IsAtRest one.old }
     requires rests_two { IsAtRest two.old }
-    requires room_one { HasRoomFor 4 one.old }
-    requires room_two { HasRoomFor 2 two.old }
     requires table { table < length (shape_in store.now).tables }
     requires fits { fits_table (shape_in store.now).tables table row ≡ true }
     requires key { key_of row ≡ key }
@@ -97,9 +109,15 @@ pub fn hand_over<R: Wait>(
         handed.sees ≡ handed.committed → handed.other ≡ Some row) }
     ensures handed { IfOk result (HandsOver store.now
         one.old two.old two.new (place_of table row) row) }
+    ensures no_room { (result ≡ Err not_handed.NoRoom) ↔ ¬ HaveRoom 4 one.old 2 two.old }
+    ensures unmoved { result ≡ Err not_handed.NoRoom
+        → (one.new ≡ one.old) × (two.new ≡ two.old) }
     ensures refused { (fault : FaultView) → result ≡ Err (not_handed.Refused fault)
         → HasWrittenNothing store.now one.new }
 {
+    if !has_room(one, 4) || !has_room(two, 2) {
+        return Err(NotHanded::NoRoom);
+    }
     // Neither session has anything open where it begins, so neither is refused.
     store.begin(rt, one).unwrap();
     store.insert(rt, one, table, row)?;

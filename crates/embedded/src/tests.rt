@@ -1,21 +1,76 @@
-//! A row is handed over in a new store.
-ghost use Rattle.std.specs.Prelude.{◌≡◌, IfOk, true};
+//! Rows are handed over and changed in new stores.
+ghost use Rattle.std.specs.Prelude.{◌≡◌, IfOk, length, true};
 ghost use Rattle.isolation_spec.specs.Contents.{key_of};
-ghost use Rattle.shared_store.specs.Store.{shape_in};
+ghost use Rattle.shared_store.specs.Open.{IsAtRest};
+ghost use Rattle.shared_store.specs.Store.{IsSession, shape_in};
 ghost use Rattle.workload_spec.specs.Valid.{fits_table};
 
+use crate::changing::change_rows;
 use crate::hand_over;
-use cell_model::{Bytes, Cell, Column, Kind, Row, Schema, TableDecl};
-use shared_store::{Built, Store};
+use cell_model::{Bytes, Cell, Column, Kind, Row, Schema, TableDecl, are_named};
+use shared_store::{Built, Session, Store};
 use std::alloc::Global;
 use std::test::Fail;
 
-/// The row of a key, which fits the table.
-fn row_of(alloc: Global, store: &Store, key: i64) -> Result<Row, Fail>
+/// A new store, and its two sessions.
+#[derive(Drop)]
+struct Opened {
+    store: Store,
+    one: Session,
+    two: Session,
+}
+
+/// A column of numbers that are not null.
+fn column(alloc: Global, name: &[u8]) -> Result<Column, Fail> {
+    Ok(Column {
+        name: Bytes::from_slice(alloc, name)?,
+        kind: Kind::I64,
+        nullable: false,
+    })
+}
+
+/// A new store of one table, which has a key and a count, and its two sessions.
+fn open(alloc: Global) -> Result<Opened, Fail>
+    ensures tables { IfOk result (λ opened. length (shape_in opened.store).tables ≡ 1) }
+    ensures one { IfOk result (λ opened. IsSession opened.store opened.one) }
+    ensures two { IfOk result (λ opened. IsSession opened.store opened.two) }
+    ensures rest { IfOk result (λ opened. IsAtRest opened.one × IsAtRest opened.two) }
+{
+    let key = column(alloc, b"key".as_slice())?;
+    let count = column(alloc, b"count".as_slice())?;
+    let columns = vec![in alloc; key, count]?;
+    if !are_named(&columns) {
+        return Err(Fail::from("a name is no text"));
+    }
+    let schema = Schema::new(columns)?;
+    let _columns = schema.columns();
+    let table = TableDecl {
+        name: Bytes::from_slice(alloc, b"a".as_slice())?,
+        schema,
+        slots: 8,
+        blocks: 1,
+    };
+    let Built {
+        store,
+        mut sessions,
+        ..
+    } = Store::build(alloc, vec![in alloc; table]?, 2, 0)?;
+    let Some(two) = sessions.pop() else {
+        return Err(Fail::from("there is no session"));
+    };
+    let Some(one) = sessions.pop() else {
+        return Err(Fail::from("there is one session alone"));
+    };
+    Ok(Opened { store, one, two })
+}
+
+/// The row of a key and a count, which fits the table.
+fn row_of(alloc: Global, store: &Store, key: i64, count: i64) -> Result<Row, Fail>
     ensures fits { IfOk result (λ row. fits_table (shape_in store.now).tables 0 row ≡ true) }
     ensures key { IfOk result (λ row. key_of row ≡ key) }
 {
-    let row = Row::from(vec![in alloc; Cell::Num(i128::from(key))]?);
+    let cells = vec![in alloc; Cell::Num(i128::from(key)), Cell::Num(i128::from(count))]?;
+    let row = Row::from(cells);
     let Some(table) = store.tables().first() else {
         return Err(Fail::from("no table"));
     };
@@ -29,27 +84,37 @@ fn row_of(alloc: Global, store: &Store, key: i64) -> Result<Row, Fail>
 #[test]
 fn a_row_is_handed_over(rt: HostRuntime) -> Result<(), Fail> {
     let alloc = rt.alloc();
-    let key = Column {
-        name: Bytes::from_slice(alloc, b"key".as_slice())?,
-        kind: Kind::I64,
-        nullable: false,
-    };
-    let schema = Schema::new(vec![in alloc; key]?)?;
-    let _columns = schema.columns();
-    let table = TableDecl {
-        name: Bytes::from_slice(alloc, b"a".as_slice())?,
-        schema,
-        slots: 8,
-        blocks: 1,
-    };
-    let Built {
+    let Opened {
         store,
-        mut sessions,
-    } = Store::build(alloc, vec![in alloc; table]?, 2)?;
-    let (front, back) = sessions.split_at_mut(1);
-    let row = row_of(alloc, &store, 7)?;
-    let handed = hand_over(&rt, &store, &mut front[0], &mut back[0], 0, 7, row)?;
+        mut one,
+        mut two,
+    } = open(alloc)?;
+    let row = row_of(alloc, &store, 7, 1)?;
+    let handed = hand_over(&rt, &store, &mut one, &mut two, 0, 7, row)?;
     assert_eq!(rt; handed.committed, 1);
     assert_eq!(rt; handed.sees, 1);
+    assert_eq!(rt; one.events(), 4);
+    assert_eq!(rt; two.events(), 2);
+    Ok(())
+}
+
+/// The same of changed rows.
+#[test]
+fn rows_are_changed(rt: HostRuntime) -> Result<(), Fail> {
+    let alloc = rt.alloc();
+    let Opened {
+        store,
+        mut one,
+        mut two,
+    } = open(alloc)?;
+    let first = row_of(alloc, &store, 7, 1)?;
+    let second = row_of(alloc, &store, 8, 1)?;
+    let changed = row_of(alloc, &store, 7, 2)?;
+    let found = change_rows(
+        &rt, &store, &mut one, &mut two, 0, first, second, changed, 8,
+    )?;
+    assert_eq!(rt; found.sees, 1);
+    assert_eq!(rt; found.own.len(), 1);
+    assert_eq!(rt; found.other.len(), 1);
     Ok(())
 }

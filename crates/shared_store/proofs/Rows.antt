@@ -1,8 +1,8 @@
 -- The passes of a store that was just built, and its row of sessions.
-use Rattle.std.proofs.Common.{◌≡◌, ◌⊎◌, ℕ, zero, suc, ◌+◌, ◌-◌, ◌<◌, ◌≤◌, ◌==◌, ◌||◌, ◌&&◌, max, Bool, true, false, cond, List, [], ◌∷◌, ◌++◌, Option, None, Some, option_map, length, get_or, reverse, refl, sym, ap, subst, ◌∙◌, length-append, true≢false, eq-eqb, arith}
+use Rattle.std.proofs.Common.{◌≡◌, ◌⊎◌, ℕ, zero, suc, ◌+◌, ◌-◌, ◌<◌, ◌≤◌, ◌==◌, ◌||◌, ◌&&◌, max, Bool, true, false, cond, List, [], ◌∷◌, ◌++◌, Option, None, Some, option_map, length, drop, get_or, reverse, take, refl, sym, ap, subst, ◌∙◌, length-append, length-take, take-append-drop, true≢false, eq-eqb, arith}
 use mathlib.Core.Logic.{inl, inr}
 use Rattle.std.specs.Prelude.{IfOk, Result, Ok, Err, slice_get}
-use Rattle.std.proofs.lemmas.List.{get_or-reverse, length-reverse}
+use Rattle.std.proofs.lemmas.List.{get_or-reverse, get_or-take, length-reverse}
 use Rattle.std.proofs.lemmas.Option.{get_or_from_slice_get, slice_get_read, slice_get_within}
 use Rattle.atomic_table.specs.Table.{Me}
 use Rattle.cell_model.specs.declared.table.TableDecl.{TableDecl}
@@ -258,6 +258,25 @@ row_turned store count row is = record {
         let there : get_or row (length row - 1 - k) s ≡ s = sym (get_or-reverse row k s within) ∙ get_or_from_slice_get (reverse row) k s s found in
         let at' : slice_get row (length row - 1 - k) ≡ Some s = slice_get_read row (length row) (length row - 1 - k) s refl (omega (arith, within)) (sym there) in
         subst (λ n. IsNewSession store n s) (omega (arith, many, within)) (is.each (length row - 1 - k) s at')
+
+-- The first ones of a new row are one too, and with those behind them they are that row.
+pub row_parted : (store : StoreView) (sessions workers : ℕ) (row front back : List Session) → IsNewRow store (sessions + workers) row → front ≡ take sessions row → back ≡ drop sessions row
+    → IsNewRow store sessions front × IsNewRow store (sessions + workers) (front ++ back)
+row_parted store sessions workers row front back is front_is back_is = (
+  subst (IsNewRow store sessions) (sym front_is) (record {
+    many = let long = length-take sessions row in let many = is.many in omega (arith, long, many);
+    each = λ k s found. is.each k s (kept k s found);
+  }),
+  subst (IsNewRow store (sessions + workers)) (sym (take-append-drop sessions row) ∙ ap (λ (xs : List Session). xs ++ drop sessions row) (sym front_is) ∙ ap (λ (xs : List Session). front ++ xs) (sym back_is)) is,
+)
+  where
+    kept : (k : ℕ) (s : Session) → slice_get (take sessions row) k ≡ Some s → slice_get row k ≡ Some s
+    kept k s found =
+        let long = length-take sessions row in
+        let many = is.many in
+        let within = slice_get_within (take sessions row) k s found in
+        let there : get_or row k s ≡ s = sym (get_or-take sessions row k s (omega (arith, within, long, many))) ∙ get_or_from_slice_get (take sessions row) k s s found in
+        slice_get_read row (length row) k s refl (omega (arith, within, long, many)) (sym there)
 
 -- ---- a store that was just built
 

@@ -1,5 +1,5 @@
 //! Building a store.
-ghost use Rattle.std.specs.Prelude.{◌≡◌, ◌-◌, ◌≤◌, IfOk, None, []};
+ghost use Rattle.std.specs.Prelude.{◌≡◌, ◌+◌, ◌-◌, ◌≤◌, ◌++◌, IfOk, None, []};
 ghost use Rattle.engine_core.specs.Core.{MayOpen};
 ghost use Rattle.shared_store.specs.Building.{HasSessions, IsNewRow, IsNewSession};
 ghost use Rattle.shared_store.specs.Store.{shape_in};
@@ -12,11 +12,14 @@ use engine_core::Core;
 use hall_steps::{Hall, Pass};
 use std::alloc::{AllocError, Global};
 
-/// A store that was just built, and all its sessions: at place k the session k + 1.
+/// A store that was just built, with its sessions, and behind them one more for each worker, who
+/// does upkeep. They are numbered from 1 on: of n sessions the one at place k is k + 1, and that of
+/// the worker at place k is n + k + 1.
 #[derive(Drop)]
 pub struct Built {
     pub store: Store,
     pub sessions: Vec<Session>,
+    pub workers: Vec<Session>,
 }
 
 impl Session {
@@ -74,18 +77,33 @@ impl Store {
         Ok(row)
     }
 
-    /// Builds a store of these tables, in which nothing was written, and its sessions.
-    pub fn build(alloc: Global, tables: Vec<TableDecl>, sessions: u32) -> Result<Built, AllocError>
-        requires size { MayOpen tables.items sessions }
-        requires some { 1 ≤ sessions }
+    /// Builds a store of these tables, in which nothing was written, with so many sessions and
+    /// workers.
+    pub fn build(
+        alloc: Global,
+        tables: Vec<TableDecl>,
+        sessions: u32,
+        workers: u32,
+    ) -> Result<Built, AllocError>
+        requires size { MayOpen tables.items (sessions + workers) }
+        requires some { 1 ≤ sessions + workers }
         ensures shape { IfOk result (λ built.
-            shape_in built.store ≡ record { tables = tables.items; passes = sessions }) }
-        ensures row { IfOk result (λ built. IsNewRow built.store sessions built.sessions.items) }
+            shape_in built.store ≡ record { tables = tables.items; passes = sessions + workers }) }
+        ensures sessions { IfOk result (λ built.
+            IsNewRow built.store sessions built.sessions.items) }
+        ensures row { IfOk result (λ built. IsNewRow built.store (sessions + workers)
+            (built.sessions.items ++ built.workers.items)) }
     {
-        let core = Core::new(alloc, tables, sessions)?;
-        let (hall, pass) = Hall::build(alloc, core, sessions)?;
+        let passes = sessions + workers;
+        let core = Core::new(alloc, tables, passes)?;
+        let (hall, pass) = Hall::build(alloc, core, passes)?;
         let store = Store { hall };
-        let sessions = store.open_all(alloc, pass, sessions)?;
-        Ok(Built { store, sessions })
+        let mut row = store.open_all(alloc, pass, passes)?;
+        let workers = row.split_off(sessions as usize)?;
+        Ok(Built {
+            store,
+            sessions: row,
+            workers,
+        })
     }
 }

@@ -1,7 +1,7 @@
 //! A session of a store.
 ghost use Rattle.std.specs.Prelude.{◌≡◌, true, Some, option_map, is_some};
 ghost use Rattle.run_spec.specs.Opened.{least_written, own_key};
-ghost use Rattle.shared_store.specs.Store.{own_of};
+ghost use Rattle.shared_store.specs.Store.{events_made, own_of};
 
 use crate::writes::Writes;
 use engine_core::Core;
@@ -34,6 +34,13 @@ impl Session {
         ensures { result ≡ self.now.session }
     {
         self.session
+    }
+
+    /// How many events the session made, by which a caller tells whether it has room for more.
+    pub fn events(&self) -> u64
+        ensures { result ≡ events_made self.now }
+    {
+        self.pass.events()
     }
 
     /// How many transactions that wrote had committed before the open one began.

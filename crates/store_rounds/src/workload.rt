@@ -61,11 +61,15 @@ pub fn run_workload<R: Wait + Threads + Sync, O: Sink, X: Sink, G: Gate + Sync>(
         Built {
             store,
             sessions: mut row,
+            mut workers,
         },
-    ) = Store::build(alloc, tables.into_vec(), crew.size())
+    ) = Store::build(alloc, tables.into_vec(), crew.sessions, crew.workers)
     else {
         return Err(RunFault::Memory);
     };
+    if row.append(&mut workers).is_err() {
+        return Err(RunFault::Memory);
+    }
     let row = row.as_mut_slice();
     run_rounds(
         rt, alloc, gate, &store, crew, row, &whole, rounds, out, outlet,

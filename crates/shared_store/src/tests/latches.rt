@@ -207,7 +207,8 @@ pub(super) fn got_while_held<R: Threads + Wait + Sync>(
     let Built {
         store,
         mut sessions,
-    } = Store::build(alloc, tables, 2)?;
+        ..
+    } = Store::build(alloc, tables, 2, 0)?;
     let Some(mut two) = sessions.pop() else {
         return Err(Fail::from("there is no session"));
     };

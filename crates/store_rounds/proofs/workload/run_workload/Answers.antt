@@ -6,25 +6,16 @@ use Rattle.store_rounds.specs.Runs.{RunsIn}
 use Rattle.store_rounds.specs.Workloads.{GoesPart, WentBy}
 use Rattle.store_rounds.proofs.Going.{on_part}
 use Rattle.store_rounds.proofs.Nothing.{nothing_goes}
-use Rattle.store_rounds.proofs.Scripts.{few_sessions, few_workers, has_sessions, may_open}
+use Rattle.store_rounds.proofs.Scripts.{has_sessions, may_open}
 use Rattle.workload_spec.specs.declared.script.Script.{Script}
 use Rattle.store_rounds.proofs.workload.run_workload.Goals as goal
 
 pub build-requires-clause-size : goal.build-requires-clause-size
 build-requires-clause-size g c =
-    subst (λ n. MayOpen c.into_vec.result.items n) (sym c.size.ensures)
-    (subst (λ (tables : List TableDecl). MayOpen tables (c.args.script.sessions + c.args.script.workers)) (sym c.into_vec.ensures) (may_open c.args.script c.requires.valid))
+    subst (λ (tables : List TableDecl). MayOpen tables (c.args.script.sessions + c.args.script.workers)) (sym c.into_vec.ensures) (may_open c.args.script c.requires.valid)
 
 pub build-requires-clause-some : goal.build-requires-clause-some
-build-requires-clause-some g c =
-    let some = has_sessions c.args.script c.requires.valid in
-    omega (arith, some, c.size.ensures)
-
-pub size-requires : goal.size-requires
-size-requires g c =
-    let sessions = few_sessions c.args.script c.requires.valid in
-    let workers = few_workers c.args.script c.requires.valid in
-    omega (arith, sessions, workers)
+build-requires-clause-some g c = let some = has_sessions c.args.script c.requires.valid in omega (arith, some)
 
 pub returns-in_default-clause-part : goal.returns-in_default-clause-part
 returns-in_default-clause-part g c =
