@@ -1,6 +1,5 @@
 pub mod WordEnds
 pub mod Keys
-pub mod NameLemmas
 pub mod Taken
 pub mod Spaces
 pub mod NextLines

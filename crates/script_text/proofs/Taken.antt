@@ -1,5 +1,5 @@
 -- Columns that are read are a table's.
-use Rattle.std.proofs.Common.{◌≡◌, ℕ, ◌+◌, ◌<◌, ◌≤◌, Bool, true, false, cond, List, [], ◌∷◌, ◌++◌, length, map, refl, sym, ap, ◌∙◌}
+use Rattle.std.proofs.Common.{◌≡◌, ℕ, ◌+◌, ◌<◌, ◌≤◌, Bool, true, false, cond, List, [], ◌∷◌, ◌++◌, length, refl, ap, ◌∙◌}
 use Rattle.std.specs.Prelude.{◌||◌, not, is_none, Some, None, bytes_eq, Result, Ok, Err}
 use Rattle.std.specs.List.{list_any, position_from}
 use Rattle.std.proofs.lemmas.Iterator.Adapters.{position_from-zero}
@@ -12,7 +12,6 @@ use Rattle.workload_spec.specs.Valid.{is_name}
 use Rattle.workload_spec.specs.declared.extent.Extent.{Extent}
 use Rattle.workload_spec.specs.Grammar.{◌>>=◌, before_colon, after_colon, kind_of, has_colon, column_of, columns_from}
 use Rattle.std.proofs.lemmas.Bool.{le-ltb, lt-ltb}
-use Rattle.script_text.proofs.NameLemmas.{any_named}
 
 -- No place is found with one element more in front where neither it nor the others pass.
 none_by : {X : Type 0} (p : X → Bool) (b : Bool) → b ≡ b → (x : X) (xs : List X) (i : ℕ) → is_none (position_from p (i + 1) xs) ≡ not (list_any p xs) → is_none (cond b (Some i) (position_from p (i + 1) xs)) ≡ not (b || list_any p xs)
@@ -52,11 +51,6 @@ chosen false r value next stop e f = absurd cc
 pub columns_step : (extent : Extent) (columns : List Column) (words : List (List ℕ)) (word : List ℕ) (behind : List (List ℕ)) (column : Column) → words ≡ word ∷ behind → has_colon word ≡ true → column_of extent columns word ≡ Ok column
     → columns_from extent columns words ≡ columns_from extent (columns ++ column ∷ []) behind
 columns_step extent columns words word behind column first colon read = ap (columns_from extent columns) first ∙ chosen (has_colon word) (column_of extent columns word) column (λ (made : Column). columns_from extent (columns ++ made ∷ []) behind) (Ok (columns, word ∷ behind)) colon read
-
--- a name that is none of the names of columns is no column's
-pub no_column : (names : List (List ℕ)) (columns : List Column) (name : List ℕ) → names ≡ map (λ (column : Column). column.name) columns
-    → list_any (λ column. bytes_eq column.name name) columns ≡ list_any (λ own. bytes_eq own name) names
-no_column names columns name are = sym (any_named (λ (column : Column). column.name) name columns) ∙ ap (list_any (λ own. bytes_eq own name)) (sym are)
 
 -- a name that a column has already is a fault
 pub twice_taken : (extent : Extent) (columns : List Column) (word : List ℕ) → is_name (before_colon word) ≡ true → list_any (λ column. bytes_eq column.name (before_colon word)) columns ≡ true

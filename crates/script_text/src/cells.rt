@@ -5,7 +5,7 @@ ghost use Rattle.workload_spec.specs.Reading.{cell_of};
 ghost use Rattle.workload_spec.specs.Grammar.{or_cause};
 ghost use Rattle.word_read.specs.Cursor.{words_behind};
 ghost use Rattle.word_read.specs.Spellings.{truth_of};
-ghost use Rattle.script_text.specs.Spellings.{value_spelled, standing};
+ghost use Rattle.script_text.specs.Spellings.{value_spelled};
 ghost use Rattle.script_text.specs.Commands.{row_read};
 ghost use Rattle.script_text.specs.Answers.{Gives};
 
@@ -45,22 +45,14 @@ pub fn row_of<'a>(
 fn cell_of(alloc: Global, column: &Column, word: &[u8]) -> Result<Cell, WordFault>
     ensures { Gives (λ cell. cell) result (or_cause cause.Cell (cell_of column.now word.now)) }
 {
-    if word == b"null".as_slice() {
-        return standing(column, Cell::Null);
-    }
-    match value_of(alloc, column.kind, word)? {
-        Some(cell) => standing(column, cell),
-        None => Err(WordFault::Bad(Cause::Cell)),
-    }
-}
-
-/// The cell, where it may stand in the column.
-fn standing(column: &Column, cell: Cell) -> Result<Cell, WordFault>
-    ensures { Gives (λ cell. cell) result (or_cause cause.Cell (standing column.now cell)) }
-{
-    match column.check(0, &cell) {
-        Ok(()) => Ok(cell),
-        Err(_) => Err(WordFault::Bad(Cause::Cell)),
+    let spelled = if word == b"null".as_slice() {
+        Some(Cell::Null)
+    } else {
+        value_of(alloc, column.kind, word)?
+    };
+    match spelled {
+        Some(cell) if column.check(0, &cell).is_ok() => Ok(cell),
+        _ => Err(WordFault::Bad(Cause::Cell)),
     }
 }
 

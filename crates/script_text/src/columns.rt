@@ -1,5 +1,5 @@
 //! Columns of a table line: `NAME:KIND`, as far as words have a colon.
-ghost use Rattle.std.specs.Prelude.{◌≡◌, ◌≤◌, ◌∷◌, [], false, length, map, take, bytes_eq, IfOk};
+ghost use Rattle.std.specs.Prelude.{◌≡◌, ◌≤◌, ◌∷◌, [], length, take, bytes_eq, IfOk};
 ghost use Rattle.std.specs.Prelude.{true};
 ghost use Rattle.std.specs.List.{list_all, list_any};
 ghost use Rattle.workload_spec.specs.Valid.{is_name, is_name_byte, is_lower_case};
@@ -11,7 +11,6 @@ ghost use Rattle.script_text.specs.Answers.{Gives};
 
 use crate::fault::WordFault;
 use crate::kinds::kind_of;
-use crate::names::Names;
 use cell_model::{Bytes, Column, Kind, Schema};
 use std::alloc::{AllocError, Global};
 use word_read::word_behind;
@@ -81,25 +80,28 @@ fn colon_place(word: &[u8]) -> usize
     word.len()
 }
 
-/// A column behind others, which have these names, where there is room for it: a name that none of
-/// them has, a colon and a kind.
+/// Whether one of the columns has the name.
+fn is_taken(columns: &[Column], name: &[u8]) -> bool
+    ensures { result ≡ list_any (λ column. bytes_eq column.name name.now) columns.now }
+{
+    columns.iter().any(|column| column.name.as_slice() == name)
+}
+
+/// A column behind others, where there is room for it: a name that none of them has, a colon and a
+/// kind.
 fn column_of(
     alloc: Global,
     extent: &Extent,
     columns: &[Column],
-    names: &Names,
     word: &[u8],
 ) -> Result<Column, WordFault>
-    requires { names.now ≡ map (λ column. column.name) columns.now }
-    ensures read { Gives (λ column. column) result (column_of extent.now columns.now word.now) }
-    ensures own { IfOk result (λ column. list_any (λ name. bytes_eq name column.name) names.now
-        ≡ false) }
+    ensures { Gives (λ column. column) result (column_of extent.now columns.now word.now) }
 {
     let (name, kind) = split_colon(word);
     if !is_name(name) {
         return Err(WordFault::Bad(Cause::Name));
     }
-    if names.contains(name) {
+    if is_taken(columns, name) {
         return Err(WordFault::Bad(Cause::Twice));
     }
     let Some((kind, nullable)) = kind_of(kind) else {
@@ -144,15 +146,12 @@ fn columns_of<'a>(
 {
     let mut columns = Vec::new(alloc);
     columns.push(key_column(alloc)?)?;
-    let mut names = Names::new(alloc);
-    names.push(alloc, b"key")?;
     let mut rest = words;
     while let Some((word, behind)) = word_behind(rest) {
         if !has_colon(word) {
             break;
         }
-        let column = column_of(alloc, extent, &columns, &names, word)?;
-        names.push(alloc, column.name.as_slice())?;
+        let column = column_of(alloc, extent, &columns, word)?;
         columns.push(column)?;
         rest = behind;
     }

@@ -4,21 +4,19 @@ ghost use Rattle.std.specs.Prelude.{slice_get, IfSome, IfOk};
 ghost use Rattle.std.specs.Option.{option_copied};
 ghost use Rattle.workload_spec.specs.Valid.{is_declared};
 
-use crate::names::Names;
 use cell_model::TableDecl;
 use std::alloc::{AllocError, Global};
 use std::marker::Model;
 use workload_spec::Tables;
 
-/// The declared tables, in order, with their names to find them by.
+/// The declared tables, in order.
 #[derive(Drop)]
 pub struct Declared {
     tables: Vec<TableDecl>,
-    names: Names,
 }
 
 impl Model for Declared {
-    ghost use Rattle.std.specs.Prelude.{List, map, ◌≡◌};
+    ghost use Rattle.std.specs.Prelude.{List};
     ghost use Rattle.std.specs.Coded.{coded_list};
     ghost use Rattle.cell_model.specs.declared.table.TableDecl.{TableDecl as TableValue};
     ghost use Rattle.cell_model.specs.contracts.table.TableDecl.{the_row};
@@ -28,8 +26,6 @@ impl Model for Declared {
     ghost coded = { coded_list the_row.coded };
 
     ghost view = { λ d. d.tables.items };
-
-    ghost invariant = { λ d. d.names ≡ map (λ table. table.name) d.tables.items };
 }
 
 impl Declared {
@@ -39,7 +35,6 @@ impl Declared {
     {
         Declared {
             tables: Vec::new(alloc),
-            names: Names::new(alloc),
         }
     }
 
@@ -62,35 +57,35 @@ impl Declared {
         ensures place { result ≡ position (λ table. bytes_eq table.name name.now) self.now }
         ensures below { IfSome result (λ place. place < length self.now) }
     {
-        self.names.place(name)
+        self.tables
+            .iter()
+            .position(|table| table.name.as_slice() == name)
     }
 
     /// Whether one of the tables has the name.
     pub fn contains(&self, name: &[u8]) -> bool
         ensures { result ≡ is_declared name.now self.now }
     {
-        self.names.contains(name)
+        self.tables
+            .iter()
+            .any(|table| table.name.as_slice() == name)
     }
 
     /// The tables and one more.
-    pub fn with(self, alloc: Global, table: TableDecl) -> Result<Declared, AllocError>
+    pub fn with(self, table: TableDecl) -> Result<Declared, AllocError>
         requires { is_declared table.name self ≡ false }
         ensures { IfOk result (λ more. more ≡ self ++ table ∷ []) }
     {
-        let Declared {
-            mut tables,
-            mut names,
-        } = self;
-        names.push(alloc, table.name.as_slice())?;
+        let Declared { mut tables } = self;
         tables.push(table)?;
-        Ok(Declared { tables, names })
+        Ok(Declared { tables })
     }
 
     /// The tables, in order.
     pub fn into_tables(self) -> Tables
         ensures { result ≡ self }
     {
-        let Declared { tables, names: _ } = self;
+        let Declared { tables } = self;
         Tables::from(tables)
     }
 }

@@ -11,7 +11,6 @@ mod fault;
 mod head;
 mod kinds;
 mod lines;
-mod names;
 mod numbers;
 mod parsing;
 mod printing;

@@ -103,7 +103,7 @@ fn further_tables<'a>(
             });
         }
         match table_of(alloc, extent, &tables, line) {
-            Ok(table) => tables = tables.with(alloc, table)?,
+            Ok(table) => tables = tables.with(table)?,
             Err(fault) => return Err(fault.on_line(at)),
         }
         rest = behind;
