@@ -1,3 +1,4 @@
 mod Changes
 mod Handing
 mod Rows
+mod Rooms

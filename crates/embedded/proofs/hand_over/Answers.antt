@@ -3,6 +3,7 @@ use Rattle.std.specs.Int.{w64}
 use Rattle.std.proofs.lemmas.Int.{to_z-of_z}
 use Rattle.isolation_spec.specs.Contents.{place_of}
 use Rattle.shared_store.specs.Open.{Commits, commits_seen}
+use Rattle.embedded.proofs.Rooms.{told_done, told_memory}
 use Rattle.embedded.proofs.Handing.{alone, begins, found_there, hands, numbered, only_commit, opens, own_read}
 use Rattle.embedded.proofs.hand_over.Goals as goal
 
@@ -76,3 +77,13 @@ returns-clause-other g c = λ same.
     (opens st c.meet.new.b c.begin-2.new.session c.begin-2.result c.unwrap-sees.result c.unwrap-sees.ensures c.begin-2.ensures.opens)
     c.in_ok-other.ensures.finds)
     same
+
+pub returns-in_err-other-clause-no_room : goal.returns-in_err-other-clause-no_room
+returns-in_err-other-clause-no_room g c =
+    told_memory c.args.one.now c.args.two.now 4 2 c.has_room.result c.has_room-else-not-has_room.result c.has_room.ensures c.has_room-else-not-has_room.ensures
+    c.if-not-has_room.false c.if-not-has_room-2.false c.from_residual-in_err-other.result c.from_residual-in_err-other.ensures.1
+
+pub returns-clause-no_room : goal.returns-clause-no_room
+returns-clause-no_room g c =
+    told_done c.args.one.now c.args.two.now 4 2 c.has_room.result c.has_room-else-not-has_room.result c.has_room.ensures c.has_room-else-not-has_room.ensures
+    c.if-not-has_room.false c.if-not-has_room-2.false _

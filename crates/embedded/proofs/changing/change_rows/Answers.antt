@@ -1,4 +1,4 @@
-use Rattle.std.proofs.Common.{None, Some, [], sym, subst, ◌∙◌}
+use Rattle.std.proofs.Common.{None, Some, [], sym, subst, ◌∙◌, arith}
 use Rattle.std.specs.BTreeMap.{insert_entry}
 use Rattle.std.specs.Int.{w64}
 use Rattle.std.proofs.lemmas.Int.{to_z-of_z}
@@ -6,6 +6,7 @@ use Rattle.isolation_spec.specs.Contents.{place_cmp, place_of}
 use Rattle.shared_store.specs.Open.{Commits, commits_seen}
 use Rattle.embedded.proofs.Changes.{all_put, finds_changes, inserted, is_numbered}
 use Rattle.embedded.proofs.Handing.{begins, opens}
+use Rattle.embedded.proofs.Rooms.{told_done, told_memory, told_refused}
 use Rattle.embedded.proofs.changing.change_rows.Goals as goal
 
 pub insert-requires-2-clause-busy : goal.insert-requires-2-clause-busy
@@ -82,3 +83,57 @@ returns-clause-finds g c =
     c.meet.ensures.commits_a c.meet.ensures.b.sees
     (opens st c.meet.new.b c.begin-2.new.session c.begin-2.result c.unwrap-sees.result c.unwrap-sees.ensures c.begin-2.ensures.opens)
     c.in_ok-other.ensures.finds
+
+pub returns-in_err-update-clause-no_room : goal.returns-in_err-update-clause-no_room
+returns-in_err-update-clause-no_room g c =
+    told_refused c.args.one.now c.args.two.now 1032 1025 c.has_room.result c.has_room-else-not-has_room.result c.has_room.ensures c.has_room-else-not-has_room.ensures
+    c.if-not-has_room.false c.if-not-has_room-2.false c.from_residual-in_err-update.result _ c.from_residual-in_err-update.ensures.1
+
+pub delete-requires-clause-room : goal.delete-requires-clause-room
+delete-requires-clause-room g c =
+    let room = c.has_room.ensures.0 c.if-not-has_room.false in
+    omega (arith, room, c.begin.ensures.few, c.insert.ensures.few, c.insert-2.ensures.few, c.update.ensures.few)
+
+pub returns-in_err-delete-clause-no_room : goal.returns-in_err-delete-clause-no_room
+returns-in_err-delete-clause-no_room g c =
+    told_refused c.args.one.now c.args.two.now 1032 1025 c.has_room.result c.has_room-else-not-has_room.result c.has_room.ensures c.has_room-else-not-has_room.ensures
+    c.if-not-has_room.false c.if-not-has_room-2.false c.from_residual-in_err-delete.result _ c.from_residual-in_err-delete.ensures.1
+
+pub scan_uncounted-requires-clause-room : goal.scan_uncounted-requires-clause-room
+scan_uncounted-requires-clause-room g c =
+    let room = c.has_room.ensures.0 c.if-not-has_room.false in
+    omega (arith, room, c.begin.ensures.few, c.insert.ensures.few, c.insert-2.ensures.few, c.update.ensures.few, c.delete.ensures.few)
+
+pub returns-in_err-own-clause-no_room : goal.returns-in_err-own-clause-no_room
+returns-in_err-own-clause-no_room g c =
+    told_memory c.args.one.now c.args.two.now 1032 1025 c.has_room.result c.has_room-else-not-has_room.result c.has_room.ensures c.has_room-else-not-has_room.ensures
+    c.if-not-has_room.false c.if-not-has_room-2.false c.from_residual-in_err-own.result c.from_residual-in_err-own.ensures.1
+
+pub commit-requires-clause-room : goal.commit-requires-clause-room
+commit-requires-clause-room g c =
+    let room = c.has_room.ensures.0 c.if-not-has_room.false in
+    omega (arith, room, c.begin.ensures.few, c.insert.ensures.few, c.insert-2.ensures.few, c.update.ensures.few, c.delete.ensures.few, c.scan_uncounted.ensures.few)
+
+pub begin-requires-2-clause-room : goal.begin-requires-2-clause-room
+begin-requires-2-clause-room g c =
+    let room = c.has_room-else-not-has_room.ensures.0 c.if-not-has_room-2.false in
+    omega (arith, room, c.meet.ensures.b.made)
+
+pub scan_uncounted-requires-2-clause-room : goal.scan_uncounted-requires-2-clause-room
+scan_uncounted-requires-2-clause-room g c =
+    let room = c.has_room-else-not-has_room.ensures.0 c.if-not-has_room-2.false in
+    omega (arith, room, c.meet.ensures.b.made, c.begin-2.ensures.few)
+
+pub returns-in_err-other-clause-no_room : goal.returns-in_err-other-clause-no_room
+returns-in_err-other-clause-no_room g c =
+    told_memory c.args.one.now c.args.two.now 1032 1025 c.has_room.result c.has_room-else-not-has_room.result c.has_room.ensures c.has_room-else-not-has_room.ensures
+    c.if-not-has_room.false c.if-not-has_room-2.false c.from_residual-in_err-other.result c.from_residual-in_err-other.ensures.1
+
+pub returns-clause-few_one : goal.returns-clause-few_one
+returns-clause-few_one g c =
+    omega (arith, c.begin.ensures.few, c.insert.ensures.few, c.insert-2.ensures.few, c.update.ensures.few, c.delete.ensures.few, c.scan_uncounted.ensures.few, c.commit.ensures.few, c.meet.ensures.a.made)
+
+pub returns-clause-no_room : goal.returns-clause-no_room
+returns-clause-no_room g c =
+    told_done c.args.one.now c.args.two.now 1032 1025 c.has_room.result c.has_room-else-not-has_room.result c.has_room.ensures c.has_room-else-not-has_room.ensures
+    c.if-not-has_room.false c.if-not-has_room-2.false _
