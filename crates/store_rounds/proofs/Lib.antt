@@ -9,6 +9,7 @@ mod Ranges
 mod Turns
 mod Rows
 mod Agendas
+mod Apart
 mod WorkerTurns
 mod Quiet
 mod Parts

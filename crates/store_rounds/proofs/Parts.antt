@@ -6,7 +6,6 @@ use Rattle.std.specs.List.{list_any}
 use Rattle.std.proofs.lemmas.Bool.Decides.{nat_tests}
 use Rattle.std.proofs.lemmas.Grind.{elements}
 use Rattle.std.proofs.lemmas.List.Elements.{All-nil}
-use Rattle.std.proofs.lemmas.List.Folds.{list_any-append}
 use Rattle.workload_spec.specs.Valid.{is_export}
 use Rattle.workload_spec.specs.declared.command.Command.{Command}
 use Rattle.run_spec.specs.Calls.{Call}
@@ -17,7 +16,7 @@ use Rattle.shared_store.specs.declared.session.Session.{Session}
 use Rattle.store_rounds.specs.Answered.{SentBy}
 use Rattle.store_rounds.specs.Crews.{calls_of}
 use Rattle.store_rounds.specs.Duties.{asks_export, is_cut, is_cut_end}
-use Rattle.store_rounds.specs.Served.{CarriedOut, CountsCut, OneExportsAtMost, MayServe, MayServeRow, PartsServed, RowServed, RowServedQuietly, Served, ServedBy, SessionServed, is_of_worker, most_of_task, asked_of_task, who_of}
+use Rattle.store_rounds.specs.Served.{CarriedOut, CountsCut, OneExportsAtMost, MayServe, MayServeRow, RowServed, Served, ServedBy, SessionServed, is_of_worker, most_of_task, asked_of_task, who_of}
 use Rattle.store_rounds.specs.Turned.{TurnsMade}
 use Rattle.store_rounds.specs.Worked.{asked_in}
 use Rattle.store_rounds.specs.Workloads.{CountsExportFault}
@@ -26,7 +25,7 @@ use Rattle.store_rounds.specs.declared.duty.Task.{Task}
 use Rattle.store_rounds.specs.declared.duty.Task.TheVariants as task
 use Rattle.store_rounds.specs.declared.fault.RunFault.{RunFault}
 use Rattle.store_rounds.specs.declared.fault.RunFault.TheVariants as fault
-use Rattle.store_rounds.proofs.Quiet.{asks_none, none_at, none_of_both, row_sent}
+use Rattle.store_rounds.proofs.Quiet.{asks_none, none_of_both, row_sent}
 use Rattle.store_rounds.proofs.Ranges.{at_back, at_front, any_default, any_of, joined, joined_back, joined_front, joined_flat, some_place}
 use Rattle.store_rounds.proofs.Sends.{calls_sent, nothing_sent}
 use Rattle.store_rounds.proofs.Turns.{never_cut, never_out, whole_not_cut, whole_not_out}
@@ -128,16 +127,6 @@ module _ {X : Type 0} where
 
 module _ (store : StoreView) (front back : List Session) (first second : List Duty) (size : length first ≡ length front)
     (may : MayServeRow store (first ++ second) (front ++ back)) where
-  -- the first part of a row may do its duties
-  pub may_front : MayServeRow store first front
-  may_front = record {
-    size = size;
-    each = λ k d e within.
-        subst (λ s. MayServe store (get_or first k e) s) (at_front front back k d within)
-        (subst (λ a. MayServe store a (get_or (front ++ back) k d)) (at_front first second k e (omega (arith, within, size)))
-        (may.each k d e (omega (arith, within, length-append front back))));
-  }
-
   -- the second part of a row may do its duties
   pub may_back : MayServeRow store second back
   may_back = record {
@@ -149,12 +138,6 @@ module _ (store : StoreView) (front back : List Session) (first second : List Du
   }
 
 module _ (first second : List Duty) (once : OneExportsAtMost (first ++ second)) where
-  -- at most one of the first part exports
-  pub once_front : OneExportsAtMost first
-  once_front j k d low high one other =
-      once j k d (omega (arith, low, length-append first second)) (omega (arith, high, length-append first second))
-      (ap asks_export (at_front first second j d low) ∙ one) (ap asks_export (at_front first second k d high) ∙ other)
-
   -- at most one of the second part exports
   pub once_back : OneExportsAtMost second
   once_back j k d low high one other =
@@ -228,19 +211,6 @@ module _ (store : StoreView) (row : List Session) (new session : Session) (dutie
         (subst (λ (cs : List Call). SentBy (shape_in store).tables cs exported exported_now) (sym (append-nil served.calls)) served.sent);
   }
 
-  -- a row of one stopped at an export where its one duty did
-  pub one_cut : list_any is_cut (slice_set duties 0 after) ≡ is_cut after
-  one_cut = go duties (omega (arith, some, one, size))
-    where
-      go : (duties : List Duty) → length duties ≡ 1 → list_any is_cut (slice_set duties 0 after) ≡ is_cut after
-      go [] e = absurd (omega (arith, e))
-      go (d ∷ []) e = or_none (is_cut after)
-        where
-          or_none : (b : Bool) → b || false ≡ b
-          or_none true = refl
-          or_none false = refl
-      go (d ∷ e ∷ duties) same = absurd (omega (arith, same))
-
 -- ---- two parts of a row
 
 module _ (store : StoreView) (front front_now back back_now : List Session) (first first_now second second_now : List Duty) (size : length first ≡ length front) where
@@ -286,51 +256,14 @@ module _ (store : StoreView) (front front_now back back_now : List Session) (fir
           (joined_back (length front) one.calls other.calls (k + 1) (j + 1) (omega (arith, at')) (omega arith))
           (other.each j d e inside)
 
-  -- a row is served where its parts are recorded as served, one after the other
-  pub parts_served : (exported exported_now : Option (List ℕ))
-      → PartsServed store front front_now first first_now back back_now second second_now exported exported_now
-      → RowServed store (front ++ back) (front_now ++ back_now) (first ++ second) (first_now ++ second_now) exported exported_now
-  parts_served exported exported_now parts = both_served exported parts.between exported_now parts.of_front parts.of_back
-
-  -- a row whose parts left the outlet alone leaves it alone
-  pub both_quiet : RowServedQuietly store front front_now first first_now → RowServedQuietly store back back_now second second_now
-      → RowServedQuietly store (front ++ back) (front_now ++ back_now) (first ++ second) (first_now ++ second_now)
-  both_quiet one other = record {
-    none_cut = list_any-append is_cut first_now second_now ∙ ap (λ b. b || list_any is_cut second_now) one.none_cut ∙ other.none_cut;
-    served = λ exported. both_served exported exported exported (one.served exported) (other.served exported);
-  }
-
 -- ---- rows without an export
 
 -- the calls of one that exports nothing
-quiet_calls : (store : StoreView) (old new : Session) (before after : Duty) (calls : List Call) → asks_export before ≡ false
+pub quiet_calls : (store : StoreView) (old new : Session) (before after : Duty) (calls : List Call) → asks_export before ≡ false
     → ServedBy store old new before after calls → list_any is_export (asked_in calls) ≡ false
 quiet_calls store old new before after calls quiet did =
     (none_of_both is_export (asked_in calls) did.rest
     (ap (list_any is_export) (sym did.asked) ∙ asks_none (shape_in store).tables before.task quiet)).0
-
--- a row that exports nothing is served with whatever was sent
-pub quiet_served : (store : StoreView) (old new : List Session) (before after : List Duty) (exported exported_now any : Option (List ℕ))
-    → length before ≡ length old → list_any asks_export before ≡ false
-    → RowServed store old new before after exported exported_now
-    → RowServed store old new before after any any
-quiet_served store old new before after exported exported_now any size quiet served = record {
-  calls = served.calls;
-  size = served.size;
-  duties = served.duties;
-  each = served.each;
-  sent = row_sent (shape_in store).tables served.calls (length old) any (go old before size quiet served.each);
-}
-  where
-    go : (old : List Session) (before : List Duty) → length before ≡ length old → list_any asks_export before ≡ false
-        → ((k : ℕ) (d : Session) (e : Duty) → k < length old → ServedBy store (get_or old k d) (get_or new k d) (get_or before k e) (get_or after k e) (served.calls (k + 1)))
-        → (k : ℕ) → k < length old → list_any is_export (asked_in (served.calls (k + 1))) ≡ false
-    go [] before size quiet each k within = absurd (omega (arith, within))
-    go (s ∷ old) [] size quiet each k within = absurd (omega (arith, size))
-    go (s ∷ old) (b ∷ before) size quiet each k within =
-        quiet_calls store (get_or (s ∷ old) k s) (get_or new k s) (get_or (b ∷ before) k b) (get_or after k b) (served.calls (k + 1))
-        (none_at asks_export (b ∷ before) quiet k b (omega (arith, within, size)))
-        (each k s b within)
 
 -- a count that cannot rise
 pub never_rose : (b : Bool) → CountsCut b 0 0 → b ≡ false
@@ -338,11 +271,6 @@ never_rose true rose = let low = rose (λ e. absurd (let never : ⊥ = cc e in n
 never_rose false same = refl
 
 -- ---- the outlet's faults
-
--- the outlet's faults of two parts are those of the row
-pub cut_beside : (first second : List Duty) (before now : ℕ) → CountsCut (list_any is_cut first || list_any is_cut second) before now
-    → CountsCut (list_any is_cut (first ++ second)) before now
-cut_beside first second before now counts = subst (λ b. CountsCut b before now) (sym (list_any-append is_cut first second)) counts
 
 -- where the first part had no fault of the outlet, the count of the second is that of both
 pub cut_of_second : (a b : Bool) (before now : ℕ) → a ≡ false → CountsCut b before now → CountsCut (a || b) before now

@@ -11,3 +11,4 @@ pub mod Duties
 pub mod Rounds
 pub mod Workloads
 pub mod Runs
+pub mod Stations

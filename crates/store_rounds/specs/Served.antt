@@ -128,6 +128,16 @@ pub record MayServe (store : StoreView) (duty : Duty) (session : Session) : Type
   pub may : MayDo store session duty.task
   pub unhurt : is_whole duty ≡ true
 
+-- One did, and no outlet grew by it.
+pub record ServedQuietly (store : StoreView) (old new : Session) (before after : Duty) : Type 0 where
+  pub not_cut : is_cut after ≡ false
+  pub served : (exported : Option (List ℕ)) → Served store old new before after exported exported
+
+-- One may do what it is to do, which exports nothing.
+pub record MayServeQuietly (store : StoreView) (duty : Duty) (session : Session) : Type 0 where
+  pub may : MayServe store duty session
+  pub quiet : asks_export duty ≡ false
+
 -- ---- a row
 
 pub record MayServeRow (store : StoreView) (duties : List Duty) (row : List Session) : Type 0 where
@@ -161,13 +171,3 @@ pub record RowServedQuietly
     : Type 0 where
   pub none_cut : list_any is_cut after ≡ false
   pub served : (exported : Option (List ℕ)) → RowServed store old new before after exported exported
-
--- Both parts of a row did.
-pub record PartsServed
-    (store : StoreView) (front front_now : List Session) (first first_now : List Duty)
-    (back back_now : List Session) (second second_now : List Duty)
-    (exported exported_now : Option (List ℕ))
-    : Type 0 where
-  pub between : Option (List ℕ)
-  pub of_front : RowServed store front front_now first first_now exported between
-  pub of_back : RowServed store back back_now second second_now between exported_now

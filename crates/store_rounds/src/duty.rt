@@ -68,6 +68,20 @@ impl Duty {
         }
     }
 
+    /// A duty in which nothing is to be done.
+    pub(crate) fn none(alloc: Global) -> Duty {
+        let lines = Lines {
+            round: 0,
+            text: Vec::new(alloc),
+        };
+        Duty {
+            task: None,
+            lines,
+            spent: Spent::new(alloc, false),
+            ended: Ok(()),
+        }
+    }
+
     /// Whether there is something to do.
     pub(crate) fn is_busy(&self) -> bool
         ensures { result ≡ is_busy self.now }

@@ -5,11 +5,14 @@
 
 mod agenda;
 mod answer;
+mod away;
 mod crew;
 mod duty;
+mod errand;
 mod fault;
 mod keeping;
 mod lines;
+mod room;
 mod round;
 mod rounds;
 mod row;

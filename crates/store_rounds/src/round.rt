@@ -10,16 +10,19 @@ ghost use Rattle.store_rounds.specs.Turns.{most_of_turn};
 ghost use Rattle.store_rounds.specs.Answered.{IsServed, most_events};
 ghost use Rattle.store_rounds.specs.Rounds.{AreNumbered, HaveRoomFor, RanRound, RoundStops};
 ghost use Rattle.store_rounds.specs.Row.{AreSessions};
+ghost use Rattle.store_rounds.specs.Stations.{AreFree};
 ghost use Rattle.store_rounds.specs.Workloads.{CountsExportFault};
 
 use crate::crew::Crew;
 use crate::duty::{duties_of, fault_of, text_of};
+use crate::errand::Server;
 use crate::fault::RunFault;
+use crate::room::{ServedDesk, Station};
 use crate::row::meet_all;
 use crate::serving::serve_row;
 use byte_ports::{Gate, Sink};
 use shared_store::{Session, Store};
-use std::alloc::{AllocError, Global};
+use std::alloc::AllocError;
 use std::sync::Wait;
 use std::thread::Threads;
 use workload_spec::Round;
@@ -35,11 +38,12 @@ use workload_spec::Round;
 /// others ended their commands and turns. [`RunFault::Memory`] where there was no memory to begin
 /// the round, or for its lines: then all commands were carried out. In each case all that were at
 /// work met.
-pub(crate) fn run_round<R: Wait + Threads + Sync, G: Gate + Sync, X: Sink>(
+pub(crate) fn run_round<'s, R: Wait + Threads + Sync, G: Gate, X: Sink>(
     rt: &R,
-    alloc: Global,
-    gate: &G,
-    store: &Store,
+    server: &Server<'_, G>,
+    store: &'s Store,
+    desks: &[ServedDesk<'s>],
+    stations: &mut [Station<'s>],
     number: u32,
     crew: Crew,
     at_once: bool,
@@ -47,6 +51,7 @@ pub(crate) fn run_round<R: Wait + Threads + Sync, G: Gate + Sync, X: Sink>(
     round: Round,
     outlet: &mut X,
 ) -> Result<Vec<u8>, RunFault>
+    requires free { AreFree 0 desks.now stations.old }
     requires sessions { AreSessions store.now row.old }
     requires numbers { AreNumbered row.old }
     requires size { length row.old ≡ crew.sessions + crew.workers }
@@ -58,6 +63,7 @@ pub(crate) fn run_round<R: Wait + Threads + Sync, G: Gate + Sync, X: Sink>(
     requires lines { list_all (λ line. is_within 1 crew.sessions line.session) round ≡ true }
     requires one { count_by (λ line. is_export line.command) round ≤ 1 }
     requires commands { All (λ line. IsServed (shape_in store.now).tables line.command) round }
+    ensures free { AreFree 0 desks.now stations.new }
     ensures whole { IfOk result (λ text.
         RanRound store.now number crew row.old row.new round text.items
         (X.written outlet.old) (X.written outlet.new)) }
@@ -66,15 +72,25 @@ pub(crate) fn run_round<R: Wait + Threads + Sync, G: Gate + Sync, X: Sink>(
     ensures faults { CountsExportFault (X.faults outlet.old) (X.faults outlet.new) result }
     ensures started { X.started outlet.new ≡ X.started outlet.old }
 {
-    let Ok(mut duties) = duties_of(alloc, crew, number, at_once, round) else {
+    let Ok(mut duties) = duties_of(server.alloc, crew, number, at_once, round) else {
         return Err(RunFault::Memory);
     };
-    serve_row(rt, alloc, gate, store, row, duties.as_mut_slice(), outlet);
+    serve_row(
+        rt,
+        server,
+        store,
+        desks,
+        stations,
+        0,
+        row,
+        duties.as_mut_slice(),
+        outlet,
+    );
     meet_all(store, row);
     if let Some(fault) = fault_of(duties.as_slice()) {
         return Err(fault);
     }
-    match text_of(alloc, duties) {
+    match text_of(server.alloc, duties) {
         Ok(text) => Ok(text),
         Err(AllocError) => Err(RunFault::Memory),
     }

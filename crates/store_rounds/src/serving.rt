@@ -1,249 +1,209 @@
-//! The duties of a round, each on a thread of its own.
-ghost use denote.Param.Send.{IsSync};
-ghost use Rattle.std.specs.Prelude.{◌≡◌, ◌<◌, ◌≤◌, ◌/◌, ◌&&◌, ◌||◌, false, length};
+//! The duties of a round, at the same time.
+ghost use Rattle.std.specs.Prelude.{◌≡◌, ◌||◌, false, not};
 ghost use Rattle.std.specs.List.{list_any};
 ghost use Rattle.store_rounds.specs.Duties.{asks_export, is_busy, is_cut};
 ghost use Rattle.store_rounds.specs.Served.{
   CountsCut,
-  OneExportsAtMost,
   MayServe,
   MayServeRow,
-  PartsServed,
+  OneExportsAtMost,
   RowServed,
   RowServedQuietly,
   Served,
+  ServedQuietly,
 };
+ghost use Rattle.store_rounds.specs.Stations.{AreFree, LeavesFree};
 
+use crate::away::{bring_back, send_away};
 use crate::duty::{Duty, Task};
+use crate::errand::Server;
+use crate::room::{ServedDesk, Station};
 use crate::turning::make_turns;
 use crate::work::work;
 use byte_ports::{Gate, PureSink, Sink};
 use shared_store::{Session, Store};
 use std::alloc::Global;
 use std::sync::Wait;
-use std::thread::{Threads, join_mut};
+use std::thread::Threads;
 
-/// The longest row that is cut behind its first, so that one thread starts those of all the others,
-/// one after another. Each half of a longer row starts its own: the way from the first thread to
-/// the last is shorter then, though a thread that starts others has to run first.
-const FEW: usize = 4;
-
-/// How many of a row of two or more stand in front of the place where it is cut.
-fn cut_of(len: usize) -> usize
-    requires { 2 ≤ len }
-    ensures few { len ≤ 4 → result ≡ 1 }
-    ensures many { 4 < len → result ≡ len / 2 }
-    ensures some { 0 < result }
-    ensures less { result < len }
-{
-    if len > FEW { len / 2 } else { 1 }
-}
-
-/// Does what each of a row is to do: all at once, each on a thread of its own where one can be
-/// made. Whoever has nothing to do gets none, and whoever exports does so on the caller's, so that
-/// the outlet stays here.
+/// Does what each of a row is to do: all at once, each at a desk of its own where there is one, from
+/// a place of the desks on.
+/// Whoever has nothing to do gets none, and whoever exports does so on the caller's thread, so that
+/// the outlet stays here; where nobody exports, the last who has something to do stays.
 #[cycle(outlet)]
-pub(crate) fn serve_row<R: Wait + Threads + Sync, G: Gate + Sync, X: Sink>(
+pub(crate) fn serve_row<'s, R: Wait + Threads + Sync, G: Gate, X: Sink>(
     rt: &R,
-    alloc: Global,
-    gate: &G,
-    store: &Store,
+    server: &Server<'_, G>,
+    store: &'s Store,
+    desks: &[ServedDesk<'s>],
+    stations: &mut [Station<'s>],
+    at: usize,
     row: &mut [Session],
     duties: &mut [Duty],
     outlet: &mut X,
 )
+    requires free { AreFree at desks.now stations.old }
     requires may { MayServeRow store.now duties.old row.old }
     requires once { OneExportsAtMost duties.old }
+    ensures free { LeavesFree at desks.now stations.old stations.new }
     ensures served { RowServed store.now row.old row.new duties.old duties.new
         (X.written outlet.old) (X.written outlet.new) }
     ensures faults { CountsCut (list_any is_cut duties.new)
         (X.faults outlet.old) (X.faults outlet.new) }
     ensures started { X.started outlet.new ≡ X.started outlet.old }
 {
-    if !any_export(duties) {
-        serve_quietly(rt, alloc, gate, store, row, duties);
+    let Some((one, others)) = row.split_first_mut() else {
+        return;
+    };
+    let Some((duty, more)) = duties.split_first_mut() else {
+        unreachable!()
+    };
+    if stays(duty, more) {
+        serve_beside(
+            rt, server, store, desks, stations, at, others, more, one, duty, outlet,
+        );
         return;
     }
-    if row.len() < 2 {
-        serve_first(rt, alloc, gate, store, row, duties, outlet);
-        return;
-    }
-    let cut = cut_of(row.len());
-    let (front, back) = row.split_at_mut(cut);
-    let (first, second) = duties.split_at_mut(cut);
-    serve_parts(rt, alloc, gate, store, front, first, back, second, outlet);
+    serve_first(
+        rt, server, store, desks, stations, at, one, duty, others, more, outlet,
+    );
 }
 
-/// Does it for both parts of a row, of which one exports nothing.
-#[cycle(outlet)]
-fn serve_parts<R: Wait + Threads + Sync, G: Gate + Sync, X: Sink>(
-    rt: &R,
-    alloc: Global,
-    gate: &G,
-    store: &Store,
-    front: &mut [Session],
-    first: &mut [Duty],
-    back: &mut [Session],
-    second: &mut [Duty],
-    outlet: &mut X,
-)
-    requires front { MayServeRow store.now first.old front.old }
-    requires front_some { 0 < length front.old }
-    requires front_once { OneExportsAtMost first.old }
-    requires back { MayServeRow store.now second.old back.old }
-    requires back_some { 0 < length back.old }
-    requires back_once { OneExportsAtMost second.old }
-    requires one { (list_any asks_export first.old && list_any asks_export second.old) ≡ false }
-    ensures served { PartsServed store.now front.old front.new first.old first.new
-        back.old back.new second.old second.new (X.written outlet.old) (X.written outlet.new) }
-    ensures faults { CountsCut (list_any is_cut first.new || list_any is_cut second.new)
-        (X.faults outlet.old) (X.faults outlet.new) }
-    ensures started { X.started outlet.new ≡ X.started outlet.old }
+/// Whether the first of a row stays on the caller's thread: it exports, or no other has something
+/// to do.
+fn stays(duty: &Duty, more: &[Duty]) -> bool
+    ensures { result ≡ (asks_export duty.now || not (list_any is_busy more.now)) }
 {
-    if !any_export(first) {
-        serve_beside(rt, alloc, gate, store, front, first, back, second, outlet);
-    } else {
-        serve_beside(rt, alloc, gate, store, back, second, front, first, outlet);
-    }
+    duty.asks_export() || !are_busy(more)
 }
 
-/// Does it for a part that exports nothing, and beside it, on the caller's thread, for another.
+/// Does it for one that exports nothing, and at the same time for others, where one may export.
 #[cycle(outlet)]
-fn serve_beside<R: Wait + Threads + Sync, G: Gate + Sync, X: Sink>(
+fn serve_first<'s, R: Wait + Threads + Sync, G: Gate, X: Sink>(
     rt: &R,
-    alloc: Global,
-    gate: &G,
-    store: &Store,
-    quiet: &mut [Session],
-    quiet_duties: &mut [Duty],
-    row: &mut [Session],
-    duties: &mut [Duty],
+    server: &Server<'_, G>,
+    store: &'s Store,
+    desks: &[ServedDesk<'s>],
+    stations: &mut [Station<'s>],
+    at: usize,
+    one: &mut Session,
+    duty: &mut Duty,
+    others: &mut [Session],
+    more: &mut [Duty],
     outlet: &mut X,
 )
-    requires quiet_may { MayServeRow store.now quiet_duties.old quiet.old }
-    requires quiet { list_any asks_export quiet_duties.old ≡ false }
-    requires some { 0 < length quiet.old }
-    requires may { MayServeRow store.now duties.old row.old }
-    requires once { OneExportsAtMost duties.old }
-    ensures quiet { RowServedQuietly store.now quiet.old quiet.new
-        quiet_duties.old quiet_duties.new }
-    ensures served { RowServed store.now row.old row.new duties.old duties.new
+    requires free { AreFree at desks.now stations.old }
+    requires may { MayServe store.now duty.old one.old }
+    requires quiet { asks_export duty.old ≡ false }
+    requires may_others { MayServeRow store.now more.old others.old }
+    requires once { OneExportsAtMost more.old }
+    ensures free { LeavesFree at desks.now stations.old stations.new }
+    ensures one { ServedQuietly store.now one.old one.new duty.old duty.new }
+    ensures others { RowServed store.now others.old others.new more.old more.new
         (X.written outlet.old) (X.written outlet.new) }
-    ensures faults { CountsCut (list_any is_cut duties.new)
+    ensures faults { CountsCut (list_any is_cut more.new)
         (X.faults outlet.old) (X.faults outlet.new) }
     ensures started { X.started outlet.new ≡ X.started outlet.old }
 {
-    if !are_busy(quiet_duties) {
-        serve_quietly(rt, alloc, gate, store, quiet, quiet_duties);
-        serve_row(rt, alloc, gate, store, row, duties, outlet);
+    if !duty.is_busy() || at >= desks.len() {
+        serve_quietly(rt, server, store, one, duty);
+        serve_row(rt, server, store, desks, stations, at, others, more, outlet);
         return;
     }
-    let mut beside = ||
-        requires { IsSync R.row × IsSync G.row × MayServeRow store.now quiet_duties.now quiet.now
-            × (list_any asks_export quiet_duties.now ≡ false) }
-        ensures { RowServedQuietly store.entry.now quiet.entry.now quiet.exit.now
-            quiet_duties.entry.now quiet_duties.exit.now }
-    { serve_quietly(rt, alloc, gate, store, quiet, quiet_duties) };
-    let mut here = ||
-        requires { IsSync R.row × IsSync G.row × MayServeRow store.now duties.now row.now
-            × OneExportsAtMost duties.now }
-        ensures { RowServed store.entry.now row.entry.now row.exit.now
-            duties.entry.now duties.exit.now
-            (X.written outlet.entry.now) (X.written outlet.exit.now)
-            × CountsCut (list_any is_cut duties.exit.now)
-            (X.faults outlet.entry.now) (X.faults outlet.exit.now)
-            × (X.started outlet.exit.now ≡ X.started outlet.entry.now) }
-    { serve_row(rt, alloc, gate, store, row, duties, outlet) };
-    join_mut(rt, &mut beside, &mut here);
+    let desk = &desks[at];
+    send_away(rt, server.alloc, store, desk, &mut stations[at], one, duty);
+    serve_row(
+        rt,
+        server,
+        store,
+        desks,
+        stations,
+        at + 1,
+        others,
+        more,
+        outlet,
+    );
+    bring_back(rt, server, desk, &mut stations[at], one, duty);
 }
 
-/// Does what each of a row is to do that exports nothing: all at once.
-#[cycle(quiet)]
-fn serve_quietly<R: Wait + Threads + Sync, G: Gate + Sync>(
+/// Does it for a row that exports nothing, and at the same time, on the caller's thread, for one.
+fn serve_beside<'s, R: Wait + Threads + Sync, G: Gate, X: Sink>(
     rt: &R,
-    alloc: Global,
-    gate: &G,
-    store: &Store,
+    server: &Server<'_, G>,
+    store: &'s Store,
+    desks: &[ServedDesk<'s>],
+    stations: &mut [Station<'s>],
+    at: usize,
     row: &mut [Session],
     duties: &mut [Duty],
+    one: &mut Session,
+    duty: &mut Duty,
+    outlet: &mut X,
 )
+    requires free { AreFree at desks.now stations.old }
     requires may { MayServeRow store.now duties.old row.old }
     requires quiet { list_any asks_export duties.old ≡ false }
-    ensures { RowServedQuietly store.now row.old row.new duties.old duties.new }
-{
-    if row.len() < 2 {
-        serve_first(rt, alloc, gate, store, row, duties, &mut PureSink);
-        return;
-    }
-    let cut = cut_of(row.len());
-    let (front, back) = row.split_at_mut(cut);
-    let (first, second) = duties.split_at_mut(cut);
-    serve_quiet_parts(rt, alloc, gate, store, front, first, back, second);
-}
-
-/// Does it for both parts of such a row: at once, where both have something to do.
-#[cycle(quiet)]
-fn serve_quiet_parts<R: Wait + Threads + Sync, G: Gate + Sync>(
-    rt: &R,
-    alloc: Global,
-    gate: &G,
-    store: &Store,
-    front: &mut [Session],
-    first: &mut [Duty],
-    back: &mut [Session],
-    second: &mut [Duty],
-)
-    requires front { MayServeRow store.now first.old front.old }
-    requires front_some { 0 < length front.old }
-    requires front_quiet { list_any asks_export first.old ≡ false }
-    requires back { MayServeRow store.now second.old back.old }
-    requires back_some { 0 < length back.old }
-    requires back_quiet { list_any asks_export second.old ≡ false }
-    ensures front { RowServedQuietly store.now front.old front.new first.old first.new }
-    ensures back { RowServedQuietly store.now back.old back.new second.old second.new }
-{
-    if !are_busy(first) || !are_busy(second) {
-        serve_quietly(rt, alloc, gate, store, front, first);
-        serve_quietly(rt, alloc, gate, store, back, second);
-        return;
-    }
-    let mut beside = ||
-        requires { IsSync R.row × IsSync G.row × MayServeRow store.now first.now front.now
-            × (list_any asks_export first.now ≡ false) }
-        ensures { RowServedQuietly store.entry.now front.entry.now front.exit.now
-            first.entry.now first.exit.now }
-    { serve_quietly(rt, alloc, gate, store, front, first) };
-    let mut here = ||
-        requires { IsSync R.row × IsSync G.row × MayServeRow store.now second.now back.now
-            × (list_any asks_export second.now ≡ false) }
-        ensures { RowServedQuietly store.entry.now back.entry.now back.exit.now
-            second.entry.now second.exit.now }
-    { serve_quietly(rt, alloc, gate, store, back, second) };
-    join_mut(rt, &mut beside, &mut here);
-}
-
-/// Does it for a row of one at most.
-fn serve_first<R: Wait + Threads + Sync, G: Gate, X: Sink>(
-    rt: &R,
-    alloc: Global,
-    gate: &G,
-    store: &Store,
-    row: &mut [Session],
-    duties: &mut [Duty],
-    outlet: &mut X,
-)
-    requires may { MayServeRow store.now duties.old row.old }
-    requires one { length row.old < 2 }
-    ensures served { RowServed store.now row.old row.new duties.old duties.new
+    requires may_one { MayServe store.now duty.old one.old }
+    ensures free { LeavesFree at desks.now stations.old stations.new }
+    ensures row { RowServedQuietly store.now row.old row.new duties.old duties.new }
+    ensures one { Served store.now one.old one.new duty.old duty.new
         (X.written outlet.old) (X.written outlet.new) }
-    ensures faults { CountsCut (list_any is_cut duties.new)
-        (X.faults outlet.old) (X.faults outlet.new) }
+    ensures faults { CountsCut (is_cut duty.new) (X.faults outlet.old) (X.faults outlet.new) }
     ensures started { X.started outlet.new ≡ X.started outlet.old }
 {
-    if row.is_empty() {
+    let Some((next, row)) = row.split_first_mut() else {
+        serve(rt, server.alloc, server.gate, store, one, duty, outlet);
+        return;
+    };
+    let Some((its, duties)) = duties.split_first_mut() else {
+        unreachable!()
+    };
+    if !its.is_busy() || at >= desks.len() {
+        serve_quietly(rt, server, store, next, its);
+        serve_beside(
+            rt, server, store, desks, stations, at, row, duties, one, duty, outlet,
+        );
         return;
     }
-    serve(rt, alloc, gate, store, &mut row[0], &mut duties[0], outlet);
+    let desk = &desks[at];
+    send_away(rt, server.alloc, store, desk, &mut stations[at], next, its);
+    serve_beside(
+        rt,
+        server,
+        store,
+        desks,
+        stations,
+        at + 1,
+        row,
+        duties,
+        one,
+        duty,
+        outlet,
+    );
+    bring_back(rt, server, desk, &mut stations[at], next, its);
+}
+
+/// Does what one of a row is to do that exports nothing.
+pub(crate) fn serve_quietly<R: Wait + Threads + Sync, G: Gate>(
+    rt: &R,
+    server: &Server<'_, G>,
+    store: &Store,
+    session: &mut Session,
+    duty: &mut Duty,
+)
+    requires may { MayServe store.now duty.old session.old }
+    requires quiet { asks_export duty.old ≡ false }
+    ensures { ServedQuietly store.now session.old session.new duty.old duty.new }
+{
+    serve(
+        rt,
+        server.alloc,
+        server.gate,
+        store,
+        session,
+        duty,
+        &mut PureSink,
+    );
 }
 
 /// Does what one of a row is to do. An export goes to the outlet.
@@ -275,13 +235,6 @@ fn serve<R: Wait + Threads + Sync, G: Gate, X: Sink>(
             make_turns(rt, alloc, gate, store, session, worker, turns, lines)
         }
     };
-}
-
-/// Whether one of them exports a table.
-fn any_export(duties: &[Duty]) -> bool
-    ensures { result ≡ list_any asks_export duties.now }
-{
-    duties.iter().any(Duty::asks_export)
 }
 
 /// Whether there is something to do for one of them.

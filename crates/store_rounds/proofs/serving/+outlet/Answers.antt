@@ -1,25 +1,99 @@
-use Rattle.std.proofs.Common.{List, ◌++◌, sym, ◌∙◌, subst}
-use Rattle.shared_store.specs.declared.session.Session.{Session}
-use Rattle.store_rounds.specs.Served.{OneExportsAtMost, RowServed}
-use Rattle.store_rounds.specs.declared.duty.Duty.{Duty}
-use Rattle.store_rounds.proofs.Parts.{not_both, parts_served}
+use Rattle.std.proofs.Common.{◌<◌, arith, length, sym, ◌∙◌, subst}
+use Rattle.std.proofs.lemmas.Bool.Decides.{nat_tests}
+use Rattle.store_rounds.specs.Served.{OneExportsAtMost}
+use Rattle.store_rounds.specs.Stations.{HasAway, IsAway}
+use Rattle.store_rounds.proofs.Apart.{beside_served_of, first_quiet_of, first_served_of, free_again, free_behind, may_one_of, may_rest_of, none_counted, once_rest_of, others_quiet, still_there}
+use Rattle.store_rounds.proofs.Parts.{cut_of_first, cut_of_second, none_served}
 use Rattle.store_rounds.proofs.serving.+outlet.Goals as goal
 
-pub serve_row-serve_parts-requires-clause-one : goal.serve_row-serve_parts-requires-clause-one
-serve_row-serve_parts-requires-clause-one g t c κs within =
-    let other = c.split_at_mut-first in
-    not_both other.result.0.now other.result.1.now (subst OneExportsAtMost other.ensures.value c.requires.once)
+pub serve_row-returns-in_default-clause-served : goal.serve_row-returns-in_default-clause-served
+serve_row-returns-in_default-clause-served g t c =
+    none_served c.args.store.now c.args.row.now c.args.duties.now _ c.in_default.ensures.cases
+
+pub serve_row-returns-in_default-clause-faults : goal.serve_row-returns-in_default-clause-faults
+serve_row-returns-in_default-clause-faults g t c =
+    none_counted c.args.duties.now _ (c.requires.may.size ∙ c.in_default.ensures.cases)
+
+pub serve_row-serve_beside-requires-clause-may : goal.serve_row-serve_beside-requires-clause-may
+serve_row-serve_beside-requires-clause-may g t c κs within =
+    may_rest_of c.args.store.now c.args.row.now _ _ c.args.duties.now _ _
+    c.in-Some.ensures.cases.0 c.in-Some-split_first_mut.ensures.cases.0 c.requires.may
+
+pub serve_row-serve_beside-requires-clause-quiet : goal.serve_row-serve_beside-requires-clause-quiet
+serve_row-serve_beside-requires-clause-quiet g t c κs within =
+    others_quiet _ _ (subst OneExportsAtMost c.in-Some-split_first_mut.ensures.cases.0 c.requires.once)
+    (sym c.stays.ensures ∙ c.if-stays.true)
+
+pub serve_row-serve_beside-requires-clause-may_one : goal.serve_row-serve_beside-requires-clause-may_one
+serve_row-serve_beside-requires-clause-may_one g t c κs within =
+    may_one_of c.args.store.now c.args.row.now _ _ c.args.duties.now _ _
+    c.in-Some.ensures.cases.0 c.in-Some-split_first_mut.ensures.cases.0 c.requires.may
+
+pub serve_row-serve_first-requires-clause-may : goal.serve_row-serve_first-requires-clause-may
+serve_row-serve_first-requires-clause-may g t c κs within =
+    may_one_of c.args.store.now c.args.row.now _ _ c.args.duties.now _ _
+    c.in-Some.ensures.cases.0 c.in-Some-split_first_mut.ensures.cases.0 c.requires.may
+
+pub serve_row-serve_first-requires-clause-quiet : goal.serve_row-serve_first-requires-clause-quiet
+serve_row-serve_first-requires-clause-quiet g t c κs within =
+    first_quiet_of c.args.duties.now _ _ c.in-Some-split_first_mut.ensures.cases.0 (sym c.stays.ensures ∙ c.if-stays.false)
+
+pub serve_row-serve_first-requires-clause-may_others : goal.serve_row-serve_first-requires-clause-may_others
+serve_row-serve_first-requires-clause-may_others g t c κs within =
+    may_rest_of c.args.store.now c.args.row.now _ _ c.args.duties.now _ _
+    c.in-Some.ensures.cases.0 c.in-Some-split_first_mut.ensures.cases.0 c.requires.may
+
+pub serve_row-serve_first-requires-clause-once : goal.serve_row-serve_first-requires-clause-once
+serve_row-serve_first-requires-clause-once g t c κs within =
+    once_rest_of c.args.duties.now _ _ c.in-Some-split_first_mut.ensures.cases.0 c.requires.once
+
+pub serve_row-returns-then-stays-clause-served : goal.serve_row-returns-then-stays-clause-served
+serve_row-returns-then-stays-clause-served g t c =
+    beside_served_of c.args.store.now c.args.row.now _ _ c.args.duties.now _ _
+    c.in-Some.ensures.cases.0 c.in-Some-split_first_mut.ensures.cases.0
+    c.serve_beside.new.one c.serve_beside.new.duty c.serve_beside.new.row c.serve_beside.new.duties _ _
+    c.serve_beside.ensures.one c.serve_beside.ensures.row
+
+pub serve_row-returns-then-stays-clause-faults : goal.serve_row-returns-then-stays-clause-faults
+serve_row-returns-then-stays-clause-faults g t c =
+    cut_of_first _ _ _ _ c.serve_beside.ensures.row.none_cut c.serve_beside.ensures.faults
 
 pub serve_row-returns-clause-served : goal.serve_row-returns-clause-served
 serve_row-returns-clause-served g t c =
-    let cut = c.split_at_mut-front in
-    let other = c.split_at_mut-first in
-    let row : List Session = c.serve_parts.new.front ++ c.serve_parts.new.back in
-    let duties : List Duty = c.serve_parts.new.first ++ c.serve_parts.new.second in
-    subst (λ (old : List Session). RowServed c.args.store.now old row c.args.duties.now duties (g.X.Sink.written c.args.outlet.now) (g.X.Sink.written c.serve_parts.new.outlet))
-    (sym cut.ensures.value)
-    (subst (λ (before : List Duty). RowServed c.args.store.now (cut.result.0.now ++ cut.result.1.now) row before duties
-    (g.X.Sink.written c.args.outlet.now) (g.X.Sink.written c.serve_parts.new.outlet)) (sym other.ensures.value)
-    (parts_served c.args.store.now cut.result.0.now c.serve_parts.new.front cut.result.1.now c.serve_parts.new.back
-    other.result.0.now c.serve_parts.new.first other.result.1.now c.serve_parts.new.second
-    (other.ensures.front_len ∙ sym cut.ensures.front_len) _ _ c.serve_parts.ensures.served))
+    first_served_of c.args.store.now c.args.row.now _ _ c.args.duties.now _ _
+    c.in-Some.ensures.cases.0 c.in-Some-split_first_mut.ensures.cases.0
+    c.serve_first.new.one c.serve_first.new.duty c.serve_first.new.others c.serve_first.new.more _ _
+    c.serve_first.ensures.one c.serve_first.ensures.others
+
+pub serve_row-returns-clause-faults : goal.serve_row-returns-clause-faults
+serve_row-returns-clause-faults g t c =
+    cut_of_second _ _ _ _ c.serve_first.ensures.one.not_cut c.serve_first.ensures.faults
+
+pub serve_first-send_away-requires-clause-may : goal.serve_first-send_away-requires-clause-may
+serve_first-send_away-requires-clause-may g t c = record { may = c.requires.may; quiet = c.requires.quiet }
+
+pub serve_first-serve_row-requires-2-clause-free : goal.serve_first-serve_row-requires-2-clause-free
+serve_first-serve_row-requires-2-clause-free g t c κs within =
+    free_behind c.args.at c.args.desks.now c.args.stations.now c.requires.free c.send_away.new.station
+
+pub serve_first-bring_back-requires-after_bounds : goal.serve_first-bring_back-requires-after_bounds
+serve_first-bring_back-requires-after_bounds g t c κs within =
+    let low : c.args.at < length c.args.desks.now = grind (arith, nat_tests, c.if-at-desks.false) in
+    still_there c.args.at c.args.desks.now c.args.stations.now c.requires.free c.send_away.new.station
+    c.serve_row-2.new.stations c.serve_row-2.ensures.free low
+    (HasAway c.index-desks-at.result) _ c.send_away.ensures.away
+
+pub serve_first-returns-clause-free : goal.serve_first-returns-clause-free
+serve_first-returns-clause-free g t c =
+    let low : c.args.at < length c.args.desks.now = grind (arith, nat_tests, c.if-at-desks.false) in
+    free_again c.args.at c.args.desks.now c.args.stations.now c.requires.free c.send_away.new.station
+    c.serve_row-2.new.stations c.serve_row-2.ensures.free low
+    c.index-desks-at.result c.bring_back.new.station c.index-desks-at.is c.bring_back.ensures.free
+
+pub serve_first-returns-clause-one : goal.serve_first-returns-clause-one
+serve_first-returns-clause-one g t c =
+    let low : c.args.at < length c.args.desks.now = grind (arith, nat_tests, c.if-at-desks.false) in
+    c.bring_back.ensures.served _ _ _
+    (still_there c.args.at c.args.desks.now c.args.stations.now c.requires.free c.send_away.new.station
+    c.serve_row-2.new.stations c.serve_row-2.ensures.free low
+    (IsAway c.index-desks-at.result c.args.store.now c.args.one.now c.args.duty.now) _ c.send_away.ensures)

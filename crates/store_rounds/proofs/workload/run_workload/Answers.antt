@@ -21,6 +21,10 @@ pub returns-in_default-clause-part : goal.returns-in_default-clause-part
 returns-in_default-clause-part g c =
     nothing_goes c.args.script (g.O.Sink.written c.args.out.now) (g.X.Sink.written c.args.outlet.now) c.requires.valid
 
+pub returns-then-is_err-clause-part : goal.returns-then-is_err-clause-part
+returns-then-is_err-clause-part g c =
+    nothing_goes c.args.script (g.O.Sink.written c.args.out.now) (g.X.Sink.written c.args.outlet.now) c.requires.valid
+
 pub returns-clause-part : goal.returns-clause-part
 returns-clause-part g c =
     let whole : Script = c.of-whole.result.value in

@@ -1,10 +1,12 @@
 use Rattle.std.proofs.Common.{◌≡◌, ◌++◌}
 use Rattle.std.specs.Vec.Iter.{into_iter_items}
+use Rattle.store_rounds.specs.Stations.{AreFree}
 use Rattle.store_rounds.proofs.Running.{Running}
-use Rattle.store_rounds.proofs.rounds.run_rounds.Given as goal
+use Rattle.store_rounds.proofs.rounds.run_left.Given as goal
 
 abbrev pub invariant-loop-round : goal.invariant-loop-round
 invariant-loop-round g l = record {
+  free : AreFree 0 l.desks l.stations;
   running : Running l.fn.script.value l.store l.row l.yielded (g.O.Sink.written l.fn.out) (g.O.Sink.written l.out)
       (g.X.Sink.written l.fn.outlet) (g.X.Sink.written l.outlet) l.number;
   split : l.yielded ++ into_iter_items l.round-iterator ≡ l.fn.script.value.rounds;
