@@ -48,8 +48,21 @@ struct Fault {
     exported: usize,
 }
 
-/// The text of a run is written by one call of the output, and flushed by the next.
-const FAULTS: [Fault; 12] = [
+/// The input is read by one call of the source, and ends with the next. The text of a run is written
+/// by one call of the output, and flushed by the next.
+const FAULTS: [Fault; 13] = [
+    Fault {
+        words: &["mainline", "check"],
+        commands: "1 begin\n====\n1 1 1 at 0\n",
+        failing: Failing {
+            source: &[3],
+            ..NOTHING_FAILS
+        },
+        status: Status::Done,
+        printed: "explained\n",
+        started: 0,
+        exported: 0,
+    },
     Fault {
         words: &["mainline", "--help"],
         commands: EXPORT,
@@ -66,6 +79,7 @@ const FAULTS: [Fault; 12] = [
         words: &["mainline", "run"],
         commands: EXPORT,
         failing: Failing {
+            source: &[3],
             outlet: &[1, 2, 3, 4],
             ..NOTHING_FAILS
         },
