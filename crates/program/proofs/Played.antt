@@ -29,12 +29,18 @@ whole_told Goes Told script before now told goes = record {
 cut_told : (Goes Told : OfRounds) (script : Script) (before now : Option (List ℕ)) → TellsBy Goes Told → GoesCutOff Goes script before now → GoesCutOff Told script before now
 cut_told Goes Told script before now told goes = record {
   whole = goes.whole;
+  round = goes.round;
   rest = goes.rest;
   rounds = goes.rounds;
   ran = goes.ran;
-  text = goes.text;
-  went = told goes.whole goes.ran goes.text goes.went;
+  last = goes.last;
+  shown = goes.shown;
+  cut = goes.cut;
+  of_round = goes.of_round;
+  went = told _ _ _ goes.went;
+  between = goes.between;
   printed = goes.printed;
+  cut_off = goes.cut_off;
 }
 
 -- A run that went up to some lines is told so in other words too.

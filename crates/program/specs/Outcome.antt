@@ -138,7 +138,8 @@ abbrev pub IsRun : Option (List ℕ) → Script → Outside → Outside → Type
 IsRun path script before now =
     GoesWhole (RanRounds path script before now) script before.printed now.printed
 
--- Some first rounds ran, and only a front of their text was printed, since the output failed.
+-- Some first rounds ran, and the output failed at the text of the last of them: that of the rounds
+-- before it was printed, and of its own only a front.
 abbrev pub IsCutOff : Option (List ℕ) → Script → Outside → Outside → Type 0
 IsCutOff path script before now =
     GoesCutOff (RanRounds path script before now) script before.printed now.printed

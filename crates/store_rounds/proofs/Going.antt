@@ -33,12 +33,18 @@ module _ (Goes Other : OfRounds) (told : (asked : List (List Line)) (ran : List 
   part_told : (failed : RunFault) → GoesPart Goes script failed before now → GoesPart Other script failed before now
   part_told fault.Out goes = record {
     whole = goes.whole;
+    round = goes.round;
     rest = goes.rest;
     rounds = goes.rounds;
     ran = goes.ran;
-    text = goes.text;
-    went = told goes.whole goes.ran goes.text goes.went;
+    last = goes.last;
+    shown = goes.shown;
+    cut = goes.cut;
+    of_round = goes.of_round;
+    went = told _ _ _ goes.went;
+    between = goes.between;
     printed = goes.printed;
+    cut_off = goes.cut_off;
   }
   part_told fault.Export goes = record {
     lines = goes.lines;

@@ -1,5 +1,5 @@
 -- A run, round by round.
-use Rattle.std.proofs.Common.{◌≡◌, ℕ, suc, ◌+◌, ◌*◌, ◌<◌, ◌≤◌, ◌^◌, true, cond, List, [], ◌∷◌, ◌++◌, map, length, get_or, take, Option, refl, sym, ap, ◌∙◌, subst, append-nil, append_assoc, arith, length-append}
+use Rattle.std.proofs.Common.{◌≡◌, ℕ, ◌+◌, ◌*◌, ◌<◌, ◌≤◌, ◌^◌, true, cond, List, [], ◌∷◌, ◌++◌, map, length, get_or, Option, refl, sym, ap, ◌∙◌, subst, append-nil, append_assoc, arith, length-append}
 use Rattle.std.specs.Prelude.{All, count_by, sum_by}
 use Rattle.std.specs.List.{flat_map, list_all, range_with_len}
 use Rattle.std.specs.Io.KnownBytes.{Appends}
@@ -43,23 +43,6 @@ use Rattle.store_rounds.proofs.Runs.{Place, gone_on, is_row, of_session, of_work
 use Rattle.store_rounds.proofs.Scripts.{few_exports, few_turns, has_sessions, lines_are_valid}
 use Rattle.store_rounds.proofs.Sends.{calls_sent, nothing_sent}
 use Rattle.store_rounds.proofs.Went.{went_so_far}
-
--- ---- what is printed
-
--- Taking beyond a text takes all of it, and then from what follows.
-take_behind : (x y : List ℕ) (count : ℕ) → take (length x + count) (x ++ y) ≡ x ++ take count y
-take_behind [] y count = ap (λ n. take n y) (let e : 0 + count ≡ count = omega arith in e)
-take_behind (first ∷ x) y count =
-    ap (λ n. take n (first ∷ (x ++ y))) (let e : suc (length x) + count ≡ suc (length x + count) = omega arith in e)
-    ∙ ap (λ (text : List ℕ). first ∷ text) (take_behind x y count)
-
--- A text, and then the front of another, print a front of both.
-prints_front : (a b c : Option (List ℕ)) (x y : List ℕ) → Appends a b x → AppendsFront b c y → AppendsFront a c (x ++ y)
-prints_front a b c x y first front = (
-  length x + front.0,
-  omega (arith, front.1, length-append x y),
-  subst (Appends a c) (sym (take_behind x y front.0)) (Appends-trans a b c x (take front.0 y) first front.2),
-)
 
 -- ---- lines
 
@@ -295,26 +278,36 @@ module _ (script : Script) (store : StoreView) (old new : List Session) (asked :
       → AppendsFront now later text
       → GoesCutOff (RunsIn script store new exported exported_later) script before later
   running_is_cut_off rest later valid split front =
-      let parted : script.rounds ≡ (asked ++ lines ∷ []) ++ rest = sym split ∙ sym (append_assoc asked (lines ∷ []) rest) in record {
-        whole = asked ++ lines ∷ [];
+      let parted : script.rounds ≡ (asked ++ lines ∷ []) ++ rest = sym split ∙ sym (append_assoc asked (lines ∷ []) rest) in
+      let these : List Share = crew_shares (crew_of script) did.calls in record {
+        whole = asked;
+        round = lines;
         rest = rest;
-        rounds = parted;
-        ran = both script store old new asked before now exported exported_now exported_later number running lines done;
-        text = rounds_text script.tables 1 (both script store old new asked before now exported exported_now exported_later number running lines done);
-        went = record {
-          went = went_so_far script
-              (both script store old new asked before now exported exported_now exported_later number running lines done)
-              (running.finished ++ more script store old new asked before now exported exported_now exported_later number running lines done)
-              exported exported_later
-              (counted_further script store old new asked before now exported exported_now exported_later number running lines done)
-              (sent_further script store old new asked before now exported exported_now exported_later number running lines done)
-              (asked ++ lines ∷ []) rest parted valid
-              (ran_further script store old new asked before now exported exported_now exported_later number running lines done);
-          stands = stands_further script store old new asked before now exported exported_now exported_later number running lines done;
-        };
-        printed = subst (AppendsFront before later)
-            (told_further script store old new asked before now exported exported_now exported_later number running lines done text did.text_is)
-            (prints_front before now later (rounds_text script.tables 1 running.rounds) text running.printed front);
+        rounds = sym split;
+        ran = running.rounds;
+        last = round script store old new asked before now exported exported_now exported_later number running lines done;
+        shown = rounds_text script.tables 1 running.rounds;
+        cut = text;
+        of_round = did.text_is
+            ∙ ap (λ (shape : Shape). round_text shape.tables (number + 1) these) running.is.shape
+            ∙ ap (λ n. round_text script.tables (n + 1) these) running.asked_count;
+        went = subst (RunsIn script store new exported exported_later (asked ++ lines ∷ [])
+            (both script store old new asked before now exported exported_now exported_later number running lines done))
+            (sym (told_further script store old new asked before now exported exported_now exported_later number running lines done text did.text_is))
+            (record {
+              went = went_so_far script
+                  (both script store old new asked before now exported exported_now exported_later number running lines done)
+                  (running.finished ++ more script store old new asked before now exported exported_now exported_later number running lines done)
+                  exported exported_later
+                  (counted_further script store old new asked before now exported exported_now exported_later number running lines done)
+                  (sent_further script store old new asked before now exported exported_now exported_later number running lines done)
+                  (asked ++ lines ∷ []) rest parted valid
+                  (ran_further script store old new asked before now exported exported_now exported_later number running lines done);
+              stands = stands_further script store old new asked before now exported exported_now exported_later number running lines done;
+            });
+        between = now;
+        printed = running.printed;
+        cut_off = front;
       }
 
 -- all rounds ran

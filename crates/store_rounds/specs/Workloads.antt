@@ -43,18 +43,24 @@ pub record GoesWhole (Goes : OfRounds) (script : Script) (before now : Option (L
   pub went : Goes script.rounds ran text
   pub printed : Appends before now text
 
--- The output failed: some first rounds of the script ran, and only a front of their text was
--- printed.
+-- The output failed at the text of a round, which ran last: that of the rounds before it was printed
+-- whole, and of its own only a front.
 pub record GoesCutOff
     (Goes : OfRounds) (script : Script) (before now : Option (List ℕ))
     : Type 0 where
   pub whole : List (List Line)
+  pub round : List Line
   pub rest : List (List Line)
-  pub rounds : script.rounds ≡ whole ++ rest
+  pub rounds : script.rounds ≡ whole ++ round ∷ rest
   pub ran : List RoundRun
-  pub text : List ℕ
-  pub went : Goes whole ran text
-  pub printed : AppendsFront before now text
+  pub last : RoundRun
+  pub shown : List ℕ
+  pub cut : List ℕ
+  pub of_round : cut ≡ round_text script.tables (length whole + 1) last.shares
+  pub went : Goes (whole ++ round ∷ []) (ran ++ last ∷ []) (shown ++ cut)
+  pub between : Option (List ℕ)
+  pub printed : Appends before between shown
+  pub cut_off : AppendsFront between now cut
 
 -- The run stopped at a round: the rounds before it ran, and their text alone was printed. Of the
 -- round these first lines of each session ran, and each worker made its turns, which is the last
