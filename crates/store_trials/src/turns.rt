@@ -223,9 +223,9 @@ fn a_block_lives_turn_by_turn(rt: HostRuntime) -> Result<(), Fail> {
     let Built {
         store,
         mut sessions,
-        mut workers,
-    } = Store::build(alloc, tables(alloc)?, 1, 1)?;
-    let (session, worker) = (&mut sessions[0], &mut workers[0]);
-    live(&rt, alloc, &store, session, worker)?;
-    break_off(&rt, alloc, &store, session)
+        ..
+    } = Store::build(alloc, tables(alloc)?, 2, 0)?;
+    let (front, back) = sessions.split_at_mut(1);
+    live(&rt, alloc, &store, &mut front[0], &mut back[0])?;
+    break_off(&rt, alloc, &store, &mut front[0])
 }

@@ -23,33 +23,33 @@ pub live-requires-clause-session : goal.live-requires-clause-session
 live-requires-clause-session g c κs =
     let row : c.in_ok-store.field-0.sessions.items ≡ c.deref_mut.result.now = cc in
     (first_new c.in_ok-store.field-0.store c.deref_mut.result.now c.split_at_mut-front.result.0.now c.index-front-0.result
-    (subst (IsNewRow c.in_ok-store.field-0.store 2) row c.in_ok-store.ensures.row) c.split_at_mut-front.ensures.front).session
+    (subst (IsNewRow c.in_ok-store.field-0.store 2) row c.in_ok-store.ensures.sessions) c.split_at_mut-front.ensures.front).session
 
 pub live-requires-clause-worker : goal.live-requires-clause-worker
 live-requires-clause-worker g c κs =
     let row : c.in_ok-store.field-0.sessions.items ≡ c.deref_mut.result.now = cc in
     (second_new c.in_ok-store.field-0.store c.deref_mut.result.now c.split_at_mut-front.result.1.now c.index-back-0.result
-    (subst (IsNewRow c.in_ok-store.field-0.store 2) row c.in_ok-store.ensures.row) c.split_at_mut-front.ensures.back).session
+    (subst (IsNewRow c.in_ok-store.field-0.store 2) row c.in_ok-store.ensures.sessions) c.split_at_mut-front.ensures.back).session
 
 pub live-requires-clause-room : goal.live-requires-clause-room
 live-requires-clause-room g c κs =
     let row : c.in_ok-store.field-0.sessions.items ≡ c.deref_mut.result.now = cc in
     let made = (first_new c.in_ok-store.field-0.store c.deref_mut.result.now c.split_at_mut-front.result.0.now c.index-front-0.result
-    (subst (IsNewRow c.in_ok-store.field-0.store 2) row c.in_ok-store.ensures.row) c.split_at_mut-front.ensures.front).made in
+    (subst (IsNewRow c.in_ok-store.field-0.store 2) row c.in_ok-store.ensures.sessions) c.split_at_mut-front.ensures.front).made in
     omega (arith, made)
 
 pub live-requires-clause-room_to_work : goal.live-requires-clause-room_to_work
 live-requires-clause-room_to_work g c κs =
     let row : c.in_ok-store.field-0.sessions.items ≡ c.deref_mut.result.now = cc in
     let made = (second_new c.in_ok-store.field-0.store c.deref_mut.result.now c.split_at_mut-front.result.1.now c.index-back-0.result
-    (subst (IsNewRow c.in_ok-store.field-0.store 2) row c.in_ok-store.ensures.row) c.split_at_mut-front.ensures.back).made in
+    (subst (IsNewRow c.in_ok-store.field-0.store 2) row c.in_ok-store.ensures.sessions) c.split_at_mut-front.ensures.back).made in
     omega (arith, made)
 
 pub break_off-requires-clause-room : goal.break_off-requires-clause-room
 break_off-requires-clause-room g c =
     let row : c.in_ok-store.field-0.sessions.items ≡ c.deref_mut.result.now = cc in
     let made = (first_new c.in_ok-store.field-0.store c.deref_mut.result.now c.split_at_mut-front.result.0.now c.index-front-0.result
-    (subst (IsNewRow c.in_ok-store.field-0.store 2) row c.in_ok-store.ensures.row) c.split_at_mut-front.ensures.front).made in
+    (subst (IsNewRow c.in_ok-store.field-0.store 2) row c.in_ok-store.ensures.sessions) c.split_at_mut-front.ensures.front).made in
     let few = c.in_ok-live.ensures.few in
     let front = c.split_at_mut-front.ensures.front_len in
     let same : slice_index_or (slice_set c.split_at_mut-front.result.0.now 0 c.live.new.session) 0 c.index-front-0-2.result ≡ c.live.new.session = search rules in
