@@ -7,4 +7,5 @@ pub mod Snapshots
 pub mod Frozen
 pub mod Parts
 pub mod Frames
+pub mod Words
 pub mod Hall

@@ -7,12 +7,14 @@ use Rattle.std.proofs.lemmas.Bool.Decides.{nat_tests}
 use Rattle.std.proofs.lemmas.List.Sums.{sum_by-cons}
 use Rattle.block_layout.specs.Place.{block_of}
 use Rattle.core_parts.proofs.Founds.{absorbed, behind_none, low_none, outside_none, same_names, unless}
-use Rattle.core_parts.proofs.Numbered.{name_at, number_at, offered_there}
+use Rattle.core_laws.proofs.Words.Numbers.{name_at, number_at}
+use Rattle.core_laws.specs.Words.Words.{number_among}
+use Rattle.core_parts.proofs.Numbered.{offered_there}
 use Rattle.core_parts.proofs.Placing.{named_once}
 use Rattle.core_parts.proofs.Spots.{number_is, number_of}
 use Rattle.core_parts.specs.declared.least.Least.{Least}
 use Rattle.core_parts.specs.declared.written.PartKind.TheVariants as kinds
-use Rattle.core_parts.specs.Least.{IsFirstBlock, number_among, offered, offered_all, offered_name}
+use Rattle.core_parts.specs.Least.{IsFirstBlock, offered, offered_all, offered_name}
 use Rattle.core_parts.specs.Touched.{bodies_at}
 use Rattle.event_spec.specs.Lawful.{Among}
 use Rattle.event_spec.specs.Parts.{BodyOf, Name, Shape, names}
@@ -65,7 +67,7 @@ module _ (sh : Shape) (table : ℕ) where
   passed least first start block is low apart = go (number_among (names sh) (BodyOf table start)) refl
     where
       gone : number_among (names sh) (BodyOf table start) ≡ None → (n : ℕ) → slice_get (names sh) n ≡ Some (BodyOf table start) → ⊥
-      gone none n at = let never : None ≡ Some n = sym none ∙ number_at (names sh) n (BodyOf table start) (named_once sh) at in cc
+      gone none n at = let never : None ≡ Some n = sym none ∙ number_at sh n (BodyOf table start) at in cc
 
       alone : ((n : ℕ) → slice_get (names sh) n ≡ Some (BodyOf table start) → ⊥) → (n : ℕ) → slice_get (names sh) n ≡ Some (BodyOf table block)
           → (block < first) ⊎ (start ≤ block) → offered n least ≡ least

@@ -9,10 +9,12 @@ use Rattle.std.proofs.lemmas.Bool.Decides.{nat_tests}
 use Rattle.std.proofs.lemmas.List.Sorted.{Contains-permutation, IsPermutation-sym}
 use Rattle.core_parts.specs.declared.least.Least.{Least}
 use Rattle.core_parts.specs.declared.written.PartKind.{PartKind}
-use Rattle.core_parts.specs.Least.{number_among, offered, offered_all, offered_name}
+use Rattle.core_laws.specs.Words.Words.{number_among}
+use Rattle.core_parts.specs.Least.{offered, offered_all, offered_name}
 use Rattle.core_parts.specs.Written.{IsFirstSpot, IsLeastOn, name_on}
 use Rattle.core_parts.proofs.Placing.{named_once}
-use Rattle.core_parts.proofs.Numbered.{name_at, number_at, offered_there}
+use Rattle.core_laws.proofs.Words.Numbers.{name_at, number_at}
+use Rattle.core_parts.proofs.Numbered.{offered_there}
 use Rattle.core_parts.proofs.Spots.{spots_rise}
 use Rattle.event_spec.specs.Lawful.{Among}
 use Rattle.event_spec.specs.Parts.{Name, Shape, names}
@@ -228,7 +230,7 @@ module _ (sh : Shape) where
       go false e =
           let same = last k i e l in
           let some : number_among (names sh) (name_on kind (get_or xs i 0)) ≡ Some n =
-          number_at (names sh) n (name_on kind (get_or xs i 0)) (named_once sh) (at ∙ ap (λ j. Some (name_on kind (get_or xs j 0))) same) in
+          number_at sh n (name_on kind (get_or xs i 0)) (at ∙ ap (λ j. Some (name_on kind (get_or xs j 0))) same) in
           let never : None ≡ Some n = sym none ∙ some in cc
 
   -- the part at the first spot that has one is the least

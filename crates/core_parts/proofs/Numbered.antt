@@ -9,54 +9,15 @@ use Rattle.std.proofs.lemmas.List.Sums.{fold-append}
 use Rattle.std.proofs.lemmas.Bool.{or_from, or_right, or_left}
 use Rattle.core_parts.proofs.Placing.{NamedOnce, named_once, number_less}
 use Rattle.core_parts.specs.declared.least.Least.{Least}
-use Rattle.core_parts.specs.Least.{number_among, offered, offered_all, offered_name}
+use Rattle.core_laws.proofs.Words.Numbers.{name_at, number_at}
+use Rattle.core_laws.specs.Words.Words.{number_among}
+use Rattle.core_parts.specs.Least.{offered, offered_all, offered_name}
 use Rattle.core_laws.proofs.Events.States.{name_is}
 use Rattle.event_spec.specs.Lawful.{Among}
 use Rattle.event_spec.specs.Parts.{Name, Shape, below, names, same_name}
 use Rattle.event_spec.specs.Touched.{passes_test}
 use Rattle.core_laws.proofs.Frames.Looks.{name_self, true_false}
 use Rattle.hall_rule.specs.Hands.{IsNext}
-
--- ---- the number of a name
-
--- Where each name stands once, each of those behind the first does.
-once_behind : (n : Name) (ns : List Name) → NamedOnce (n ∷ ns) → NamedOnce ns
-once_behind n ns once j k m a b = let e = once (suc j) (suc k) m a b in omega (arith, e)
-
--- a name that stands once has its place as number
-pub number_at : (ns : List Name) (k : ℕ) (w : Name) → NamedOnce ns → slice_get ns k ≡ Some w → number_among ns w ≡ Some k
-number_at [] k w once is = cc
-number_at (n ∷ ns) zero w once is =
-    let same : n ≡ w = cc in
-    ap (λ b. cond b (Some 0) (option_map (λ k. k + 1) (number_among ns w))) (ap (λ m. same_name n m) (sym same) ∙ name_self n)
-number_at (n ∷ ns) (suc k) w once is = go (same_name n w) refl (number_at ns k w (once_behind n ns once) is)
-  where
-    go : (b : Bool) → same_name n w ≡ b → number_among ns w ≡ Some k → number_among (n ∷ ns) w ≡ Some (suc k)
-    go true same behind = let e = once 0 (suc k) w (ap Some (name_is n w same)) is in absurd (omega (arith, e))
-    go false other behind =
-        ap (λ b. cond b (Some 0) (option_map (λ k. k + 1) (number_among ns w))) other
-        ∙ ap (option_map (λ k. k + 1)) behind
-        ∙ ap Some (let e : k + 1 ≡ suc k = omega arith in e)
-
--- at a name's number stands the name
-pub name_at : (ns : List Name) (w : Name) (k : ℕ) → number_among ns w ≡ Some k → slice_get ns k ≡ Some w
-name_at [] w k is = cc
-name_at (n ∷ ns) w k is = go (same_name n w) refl (λ j e. name_at ns w j e)
-  where
-    behind : (o : Option ℕ) → number_among ns w ≡ o → ((j : ℕ) → number_among ns w ≡ Some j → slice_get ns j ≡ Some w)
-        → option_map (λ k. k + 1) o ≡ Some k → slice_get (n ∷ ns) k ≡ Some w
-    behind None e each never = cc
-    behind (Some j) e each at =
-        let next : j + 1 ≡ k = cc in
-        ap (slice_get (n ∷ ns)) (sym next ∙ (let s : j + 1 ≡ suc j = omega arith in s)) ∙ each j e
-
-    go : (b : Bool) → same_name n w ≡ b → ((j : ℕ) → number_among ns w ≡ Some j → slice_get ns j ≡ Some w) → slice_get (n ∷ ns) k ≡ Some w
-    go true same each =
-        let here : Some 0 ≡ Some k = ap (λ b. cond b (Some 0) (option_map (λ k. k + 1) (number_among ns w))) (sym same) ∙ is in
-        let first : 0 ≡ k = cc in
-        ap (slice_get (n ∷ ns)) (sym first) ∙ ap Some (name_is n w same)
-    go false other each = behind (number_among ns w) refl each
-        (ap (λ b. cond b (Some 0) (option_map (λ k. k + 1) (number_among ns w))) (sym other) ∙ is)
 
 -- A name that stands at a place of a list is among it.
 among_at : (ns : List Name) (k : ℕ) (w : Name) → slice_get ns k ≡ Some w → Among w ns
@@ -66,7 +27,7 @@ among_at (n ∷ ns) (suc k) w is = inr (among_at ns k w is)
 
 -- a name that stands at a number offers it, and one that stands nowhere offers nothing
 pub offered_there : (sh : Shape) (least : Least) (w : Name) (n : ℕ) → slice_get (names sh) n ≡ Some w → offered_name sh least w ≡ offered n least
-offered_there sh least w n at = ap (λ o. option_map_or (λ number. offered number least) o least) (number_at (names sh) n w (named_once sh) at)
+offered_there sh least w n at = ap (λ o. option_map_or (λ number. offered number least) o least) (number_at sh n w at)
 
 -- a name that there is not offers nothing
 pub offered_away : (sh : Shape) (least : Least) (w : Name) → (Among w (names sh) → ⊥) → offered_name sh least w ≡ least
@@ -112,7 +73,7 @@ at_never sh w k none = go (slice_get (names sh) k) refl
       where
         by : (b : Bool) → same_name w v ≡ b → is_at sh w k ≡ false
         by true t =
-            let found : number_among (names sh) w ≡ Some k = number_at (names sh) k w (named_once sh) (e ∙ ap Some (sym (name_is w v t))) in
+            let found : number_among (names sh) w ≡ Some k = number_at sh k w (e ∙ ap Some (sym (name_is w v t))) in
             let never : None ≡ Some k = sym none ∙ found in cc
         by false t = ap (passes_test (same_name w)) e ∙ t
 

@@ -7,7 +7,7 @@ use Rattle.core_laws.proofs.Events.States.{name_is}
 use Rattle.event_spec.specs.declared.part.Part.TheVariants as part
 use Rattle.event_spec.specs.Lawful.{Among}
 use Rattle.event_spec.specs.Parts.{CorePart, Parts, Shape, Name, same_name, names, part_named, held_named}
-use Rattle.core_laws.proofs.Frames.Distinct.{part_is}
+use Rattle.core_laws.proofs.Frames.Distinct.{part_is, stands_once}
 use Rattle.core_laws.proofs.Frames.Looks.{got_among, name_self, true_false, within}
 use Rattle.hall_rule.specs.Hands.{Agrees}
 
@@ -17,43 +17,9 @@ use Rattle.hall_rule.specs.Hands.{Agrees}
 abbrev pub NamedOnce : List Name → Type 0
 NamedOnce ns = (j k : ℕ) (n : Name) → slice_get ns j ≡ Some n → slice_get ns k ≡ Some n → j ≡ k
 
--- a part that tells a number
-abbrev told : ℕ → CorePart
-told k = part.Head (record { block = k; taken = 0; inserts = 0; empty = [] })
-
--- a part for each name, which tells where it stands
-marks : ℕ → List Name → Parts
-marks a [] = []
-marks a (n ∷ ns) = told a ∷ marks (a + 1) ns
-
--- The mark at a name's place tells this place.
-mark_at : (a : ℕ) (ns : List Name) (k : ℕ) (n : Name) → slice_get ns k ≡ Some n → slice_get (marks a ns) k ≡ Some (told (a + k))
-unfolding marks
-mark_at a [] k n is = cc
-mark_at a (m ∷ ns) zero n is = ap (λ x. Some (told x)) (let e : a ≡ a + 0 = omega arith in e)
-mark_at a (m ∷ ns) (suc k) n is = mark_at (a + 1) ns k n is ∙ ap (λ x. Some (told x)) (let e : a + 1 + k ≡ a + suc k = omega arith in e)
-
--- The number that a head tells, and zero for any other part.
-number_in : CorePart → ℕ
-number_in (part.Head head) = head.block
-number_in (part.Shard places) = 0
-number_in (part.Body body) = 0
-number_in (part.Desk desk) = 0
-
--- Marks that are the same tell the same number.
-same_told : (j k : ℕ) → told j ≡ told k → j ≡ k
-unfolding number_in
-same_told j k e = ap number_in e
-
 -- a shape's names do
 pub named_once : (sh : Shape) → NamedOnce (names sh)
-named_once sh j k n a b =
-    let x = part_is sh (marks 0 (names sh)) j n (told (0 + j)) a (mark_at 0 (names sh) j n a) in
-    let y = part_is sh (marks 0 (names sh)) k n (told (0 + k)) b (mark_at 0 (names sh) k n b) in
-    let e = same_told (0 + j) (0 + k) (both (part_named (names sh) (marks 0 (names sh)) n) (told (0 + j)) (told (0 + k)) x y) in omega (arith, e)
-  where
-    both : (o : Option CorePart) (p q : CorePart) → o ≡ Some p → o ≡ Some q → p ≡ q
-    both o p q x y = cc
+named_once sh j k n a b = stands_once sh j k n a b
 
 -- Where each name stands once, each of those behind the first does.
 once_tail : (n : Name) (ns : List Name) → NamedOnce (n ∷ ns) → NamedOnce ns

@@ -10,9 +10,9 @@ use Rattle.core_parts.proofs.Telling.{block_of_body, table_of_shard}
 use Rattle.core_parts.specs.Numbers.{first_bodies}
 use Rattle.core_parts.specs.declared.written.PartKind.{PartKind}
 use Rattle.core_parts.specs.declared.written.PartKind.TheVariants as kinds
-use Rattle.core_parts.specs.Least.{number_among}
+use Rattle.core_laws.specs.Words.Words.{number_among}
 use Rattle.core_parts.specs.Written.{IsFirstSpot, count_of, name_of, name_on}
-use Rattle.core_parts.proofs.Numbered.{name_at, number_at}
+use Rattle.core_laws.proofs.Words.Numbers.{name_at, number_at}
 use Rattle.event_spec.specs.Lawful.{Among, HasTable}
 use Rattle.event_spec.specs.Parts.{Name, Shape, blocks_of, names}
 
@@ -77,7 +77,7 @@ number_is sh kind t i n at =
 
 -- the part at a spot, if there is one
 pub part_there : (sh : Shape) (kind : PartKind) (spot n : ℕ) → slice_get (names sh) n ≡ Some (name_on kind spot) → Some n ≡ number_among (names sh) (name_on kind spot)
-part_there sh kind spot n at = sym (number_at (names sh) n (name_on kind spot) (named_once sh) at)
+part_there sh kind spot n at = sym (number_at sh n (name_on kind spot) at)
 
 -- Where no part is at a spot, it has no number.
 no_part : (sh : Shape) (kind : PartKind) (spot : ℕ) → (Among (name_on kind spot) (names sh) → ⊥) → None ≡ number_among (names sh) (name_on kind spot)

@@ -1,21 +1,16 @@
 -- The least number from one on, of those that were offered.
-use Rattle.std.specs.Prelude.{◌≡◌, ℕ, ◌+◌, ◌<◌, ◌≤◌, ◌&&◌, nat_le, nat_lt, true, List, [], ◌∷◌, Option}
-use Rattle.std.specs.Prelude.{None, Some, option_map, fold, slice_get, if◌then◌else◌}
+use Rattle.std.specs.Prelude.{◌≡◌, ℕ, ◌<◌, ◌≤◌, ◌&&◌, nat_le, nat_lt, true, List, Some, fold}
+use Rattle.std.specs.Prelude.{slice_get, if◌then◌else◌}
 use Rattle.std.specs.Option.{option_map_or}
+use Rattle.core_laws.specs.Words.Words.{number_among}
 use Rattle.core_parts.specs.declared.least.Least.{Least}
-use Rattle.event_spec.specs.Parts.{Name, BodyOf, Shape, names, same_name}
+use Rattle.event_spec.specs.Parts.{Name, BodyOf, Shape, names}
 
 -- a number takes the seat where it is from the first one on, and below what sits there
 abbrev pub offered : ℕ → Least → Least
 offered number least =
     if nat_le least.from number && option_map_or (λ best. nat_lt number best) least.best true
     then record least { best = Some number } else least
-
--- the place of a name among names, if it stands there
-abbrev pub number_among : List Name → Name → Option ℕ
-number_among [] name = None
-number_among (n ∷ ns) name = if same_name n name then Some 0
-    else option_map (λ k. k + 1) (number_among ns name)
 
 -- a part's number is offered, where there is such a part
 abbrev pub offered_name : Shape → Least → Name → Least

@@ -6,7 +6,8 @@
 //! shape, which an event does not know, and there may be spots at which a shape has no part.
 ghost use Rattle.std.specs.Prelude.{◌≡◌, ◌+◌, ◌*◌, ◌/◌, ◌%◌, ◌^◌, ◌<◌, IfSome, Some, map};
 ghost use Rattle.std.specs.Prelude.{slice_get};
-ghost use Rattle.core_parts.specs.Least.{number_among, offered_all};
+ghost use Rattle.core_laws.specs.Words.Words.{number_among};
+ghost use Rattle.core_parts.specs.Least.{offered_all};
 ghost use Rattle.core_parts.specs.Written.{AreWritten, IsFirstSpot, IsLeastOn, count_of, name_of};
 ghost use Rattle.core_parts.specs.Written.{name_on, name_written};
 ghost use Rattle.event_spec.specs.Lawful.{HasTable};

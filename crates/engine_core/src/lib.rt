@@ -7,7 +7,8 @@ mod calls;
 mod engine;
 mod replies;
 mod running;
+mod words;
 
 pub use asks::{image_of, imaged};
-pub use core_events::CoreReply;
+pub use core_events::{CoreReply, shared};
 pub use engine::{Core, Opened};

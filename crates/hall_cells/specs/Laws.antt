@@ -1,7 +1,7 @@
 -- The laws of the marks.
 use Rattle.std.proofs.Common.{◌≡◌, ◌≢◌, ℕ, zero, suc, ◌+◌, ◌<◌, eqb, cond, List, [], ◌∷◌, Option}
 use Rattle.std.proofs.Common.{None, Some, length, set, get_or-set_same, get_or-set_other}
-use Rattle.std.proofs.Common.{length-set, refl, sym, ap, subst, ◌∙◌, eq-eqb, ne_eqb, arith}
+use Rattle.std.proofs.Common.{◌^◌, inl, inr, length-set, refl, sym, ap, subst, ◌∙◌, eq-eqb, ne_eqb, arith}
 use Rattle.std.specs.Prelude.{slice_get, slice_index}
 use Rattle.hall_cells.specs.Marks.{Fits, IsLeast, IsOpening, Stands, Teaches, after_deed, open_of}
 use Rattle.hall_cells.specs.Marks.{reply_of, session_of, touches_part}
@@ -9,6 +9,7 @@ use Rattle.hall_cells.specs.declared.deed.Deed.{Deed}
 use Rattle.hall_cells.specs.declared.deed.Deed.TheVariants.{Begin, End, Raise}
 use Rattle.hall_cells.specs.declared.deed.Least.{Least}
 use Rattle.hall_rule.specs.Hands.{Agrees, Covers, Holds, OnlyHeld}
+use Rattle.hall_rule.specs.Heads.{Turns}
 use Rattle.hall_rule.proofs.Lists.{by_cases}
 
 pub get_set_else : (l : List ℕ) (k i a : ℕ) → i ≢ k → slice_get (set l k a) i ≡ slice_get l i
@@ -162,3 +163,10 @@ learns sh (Raise q p by) f s ok fits h =
     let b = fits.0 in
     let c = h.0 in
     (omega (arith, b, c), omega (arith, n', a))
+
+-- the word of a mark, which is no block, stays 0
+pub wordless : 0 < 2 ^ 32
+wordless = omega arith
+
+pub unturned : (k : ℕ) → Turns (None ≡ Some k) 0 0
+unturned k = inr ((λ thaws. absurd (cc)), inl refl)

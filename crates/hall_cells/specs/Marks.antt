@@ -76,8 +76,10 @@ meaning_of parts start passes = record {
   takes_memory = λ deed. false;
   transaction = open_of parts;
   fact = IsLeast parts;
+  head = λ mark. 0;
+  thaws = λ deed. None;
+  turning = λ deed. false;
   passes = passes;
-  blocks = 0;
 }
 
 -- No part is in the hand.

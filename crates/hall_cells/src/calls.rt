@@ -36,6 +36,7 @@ fn try_begin<L: Ledger>(
         pass.new.hands }
     ensures room { SameRoom (first_of pass.old.hands) (first_of pass.new.hands) }
     ensures sessions { pass.new.seat.me.0.sessions ≡ pass.old.seat.me.0.sessions }
+    ensures claim { pass.new.seat.me.0.claim ≡ pass.old.seat.me.0.claim }
     ensures grows { length pass.new.seat.me.0.mine ≤ length pass.old.seat.me.0.mine + 1 }
     ensures begun { MatchBool result
         (MakesDeed (means ⟦<Marks as Parts>⟧ hall.now) (Begin session)
@@ -72,6 +73,7 @@ pub fn begin<R: Wait, L: Ledger>(
         pass.new.hands }
     ensures empty { IsEmpty (first_of pass.new.hands) }
     ensures sessions { pass.new.seat.me.0.sessions ≡ pass.old.seat.me.0.sessions }
+    ensures claim { pass.new.seat.me.0.claim ≡ pass.old.seat.me.0.claim }
     ensures grows { length pass.new.seat.me.0.mine ≤ length pass.old.seat.me.0.mine + 1 }
     ensures begun { MatchBool result
         (MakesDeed (means ⟦<Marks as Parts>⟧ hall.now) (Begin session)
@@ -110,6 +112,7 @@ fn try_raise<L: Ledger>(
         pass.new.hands }
     ensures room { SameRoom (first_of pass.old.hands) (first_of pass.new.hands) }
     ensures sessions { pass.new.seat.me.0.sessions ≡ pass.old.seat.me.0.sessions }
+    ensures claim { pass.new.seat.me.0.claim ≡ pass.old.seat.me.0.claim }
     ensures grows { length pass.new.seat.me.0.mine ≤ length pass.old.seat.me.0.mine + 1 }
     ensures raised { MatchOption result
         (MakesNone (means ⟦<Marks as Parts>⟧ hall.now) (λ s. 2 ^ 64 ≤ slice_index s part + by)
@@ -151,6 +154,7 @@ fn raise_for<R: Wait, L: Ledger>(
         pass.new.hands }
     ensures empty { IsEmpty (first_of pass.new.hands) }
     ensures sessions { pass.new.seat.me.0.sessions ≡ pass.old.seat.me.0.sessions }
+    ensures claim { pass.new.seat.me.0.claim ≡ pass.old.seat.me.0.claim }
     ensures grows { length pass.new.seat.me.0.mine ≤ length pass.old.seat.me.0.mine + 1 }
     ensures raised { MatchOption result
         (MakesNone (means ⟦<Marks as Parts>⟧ hall.now) (λ s. 2 ^ 64 ≤ slice_index s part + by)
@@ -187,6 +191,7 @@ pub fn raise<R: Wait, L: Ledger>(
         pass.new.hands }
     ensures empty { IsEmpty (first_of pass.new.hands) }
     ensures sessions { pass.new.seat.me.0.sessions ≡ pass.old.seat.me.0.sessions }
+    ensures claim { pass.new.seat.me.0.claim ≡ pass.old.seat.me.0.claim }
     ensures grows { length pass.new.seat.me.0.mine ≤ length pass.old.seat.me.0.mine + 1 }
     ensures raised { MatchOption result
         (MakesNone (means ⟦<Marks as Parts>⟧ hall.now) (λ s. 2 ^ 64 ≤ slice_index s part + by)
@@ -226,6 +231,7 @@ pub fn raise_within<R: Wait, L: Ledger>(
         pass.new.hands }
     ensures empty { IsEmpty (first_of pass.new.hands) }
     ensures sessions { pass.new.seat.me.0.sessions ≡ pass.old.seat.me.0.sessions }
+    ensures claim { pass.new.seat.me.0.claim ≡ pass.old.seat.me.0.claim }
     ensures grows { length pass.new.seat.me.0.mine ≤ length pass.old.seat.me.0.mine + 1 }
     ensures raised { MatchOption result
         (MakesNone (means ⟦<Marks as Parts>⟧ hall.now) (λ s. 2 ^ 64 ≤ slice_index s part + by)
@@ -261,6 +267,7 @@ pub fn end<R: Wait, L: Ledger>(
         pass.new.hands }
     ensures empty { IsEmpty (first_of pass.new.hands) }
     ensures sessions { pass.new.seat.me.0.sessions ≡ pass.old.seat.me.0.sessions }
+    ensures claim { pass.new.seat.me.0.claim ≡ pass.old.seat.me.0.claim }
     ensures closed { open_of hall.now.shape
         (replay (means ⟦<Marks as Parts>⟧ hall.now) pass.new.seat.me.0.log) session ≡ None }
     ensures taken { TookOnly 0 pass.old.seat.me.0 pass.new.seat.me.0 }
@@ -293,6 +300,7 @@ pub fn join_and_raise<R: Wait, L: Ledger>(
         ≡ Some session }
     requires few { (length pass.old.seat.me.0.mine < 2 ^ 56 * hands_of pass.old.seat.me.0)
         × (length ended.seat.me.0.mine < 2 ^ 56 * hands_of ended.seat.me.0) }
+    requires free { ended.seat.me.0.claim ≡ 0 }
     ensures pass { IsPass (means ⟦<Marks as Parts>⟧ hall.now) hall.now.id pass.new.seat
         pass.new.hands }
     ensures opened { open_of hall.now.shape
@@ -317,7 +325,7 @@ pub fn open(
         × (r.0.shape ≡ length (⟦<Marks as Parts>⟧.state_of r.0.core))) }
     ensures empty { IfOk result (λ r. IsEmpty (first_of r.1.hands)) }
     ensures view { IfOk result (λ r. (r.1.seat.me.0.sessions ≡ sessions_to passes)
-        × (r.1.seat.me.0.mine ≡ [])) }
+        × (r.1.seat.me.0.mine ≡ []) × (r.1.seat.me.0.claim ≡ 0)) }
 {
     let (hall, pass) = Hall::build(alloc, Marks::new(alloc, parts)?, passes)?;
     Ok((hall, pass))

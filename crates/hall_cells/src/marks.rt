@@ -1,14 +1,14 @@
 //! The marks as a core.
-ghost use Rattle.std.specs.Prelude.{◌≡◌, ◌^◌, ◌<◌, false, IfOk, Some, length, map, replicate};
+ghost use Rattle.std.specs.Prelude.{◌≡◌, ◌^◌, ◌<◌, false, IfOk, None, Some, length, map, replicate};
 ghost use Rattle.std.specs.Prelude.{vec_len};
 ghost use Rattle.hall_cells.specs.Marks.{Fits, IsLeast, IsOpening, Stands, Teaches, after_deed};
 ghost use Rattle.hall_cells.specs.Marks.{open_of, reply_of, session_of, touches_part};
 ghost use Rattle.hall_cells.specs.Laws.{ascends, depends, frame, learns, leaves, local, outlives};
-ghost use Rattle.hall_cells.specs.Laws.{rests, sized};
-ghost use Rattle.std.proofs.Common.{◌∙◌};
+ghost use Rattle.hall_cells.specs.Laws.{rests, sized, unturned, wordless};
+ghost use Rattle.std.proofs.Common.{refl, ◌∙◌};
 
 use crate::deed::{Deed, Least};
-use hall_rule::{Hand, Parts, Steps};
+use hall_rule::{Hand, Head, Parts, Steps};
 use std::alloc::{AllocError, Global};
 use std::sync::ledger::Ledger;
 
@@ -82,6 +82,12 @@ impl Parts for Marks {
 
     ghost teaches = { Teaches };
 
+    ghost wears = { λ mark. None };
+
+    ghost thaws = { λ sh e. None };
+
+    ghost turning = { λ e. false };
+
     /// A part is a mark.
     fn parts(&self) -> u32 {
         self.marks.len() as u32
@@ -128,6 +134,16 @@ impl Parts for Marks {
         }
     }
 
+    /// No mark is a block.
+    fn word(_mark: &u64) -> Option<Head> {
+        None
+    }
+
+    /// No event turns a word.
+    fn turns_words(_event: &Deed) -> bool {
+        false
+    }
+
     ghost opens = { λ sh s o. o.parts };
 
     ghost rests = { rests };
@@ -148,6 +164,14 @@ impl Parts for Marks {
     ghost leaves = { leaves };
 
     ghost outlives = { λ sh e f s ok stands fits least. outlives sh e f s ok fits least };
+
+    ghost cold = { λ sh s k p o at. refl };
+
+    ghost small = { λ sh s k p ok at. wordless };
+
+    ghost turns = { λ sh e s k p q ok stands fits before after. unturned k };
+
+    ghost still = { λ sh e s k p q ok stands fits turns before after. refl };
 
     ghost learns = { λ sh e f s ok stands fits h. learns sh e f s ok fits h };
 }

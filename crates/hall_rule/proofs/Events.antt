@@ -1,26 +1,31 @@
 -- An event keeps the invariant: what was lawful by what a pass knew is lawful where it is made.
-use Rattle.std.proofs.Common.{◌≡◌, ◌≢◌, ℕ, ◌+◌, ◌*◌, ◌%◌, ◌^◌, ◌<◌, true, false, List, [], ◌∷◌, ◌++◌, Option, Some, length, set, get_or-set_same, get_or-set_other, refl, sym, ap, subst, ◌∙◌, inl, inr, ⊎_elim, true≢false, length-append, length-set, mod-eq_of_lt, arith}
+use Rattle.std.proofs.Common.{◌≡◌, ◌≢◌, ℕ, suc, ◌+◌, ◌*◌, ◌%◌, ◌^◌, ◌<◌, true, false, List, [], ◌∷◌, ◌++◌, Option, Some, length, set, get_or-set_same, get_or-set_other, refl, sym, ap, subst, ◌∙◌, inl, inr, ⊎_elim, true≢false, length-append, length-set, mod-eq_of_lt, arith}
 use Rattle.std.specs.Prelude.{slice_get, slice_index}
 use mathlib.Core.Option as maybe
 use lib.ListN.{get_elem?}
 use Rattle.atomic_table.specs.Table.{Allows, State}
 use Rattle.atomic_table.specs.Table.Act.{keeps}
+use Rattle.atomic_table.proofs.Lists.{set_here}
 use Rattle.hall_rule.specs.EventLog.{LawfulFrom, Spares, Untouched, after, has, own, replay}
-use Rattle.hall_rule.specs.HallInvariant.{HallInvariant, Owners, Rule, hands_of, latch_word, stage}
+use Rattle.hall_rule.specs.HallInvariant.{HallInvariant, Owners, block_word, hands_of, latch_word, stage}
+use Rattle.hall_rule.specs.Rule.{Rule}
 use Rattle.hall_rule.specs.Hands.{Agrees, Covers, Holds}
 use Rattle.hall_rule.specs.Meaning.{Laws, Meaning}
 use Rattle.hall_rule.specs.Views.{Adds, Learned, Sees, added}
 use Rattle.hall_rule.specs.declared.view.Entry.{Entry}
 use Rattle.hall_rule.specs.declared.view.View.{View}
+use Rattle.hall_rule.proofs.EventWords.{event_words}
+use Rattle.hall_rule.proofs.LatchWords.{still_words}
 use Rattle.hall_rule.proofs.Latches.{learns, unset}
-use Rattle.hall_rule.proofs.Lists.{bounded}
+use Rattle.hall_rule.proofs.Lists.{at_below, bounded}
 use Rattle.hall_rule.proofs.Logs.{after_is, goes_on_whole, has_head, lawful_append, own_all, own_append, replay_append, since_whole}
 use Rattle.hall_rule.proofs.Moved.{Moves, moved}
 use Rattle.hall_rule.proofs.Quiet.{stirred}
+use Rattle.hall_rule.proofs.Halves.{PartsHold, WordsHold, both, parts_of, words_of}
 
 module _ {P E T F : Type 0} (M : Meaning P E T F) (laws : Laws M) where
   -- The event word never wraps.
-  pub never_wraps : (log : List (Entry E)) (o : Owners) (s : State (Option P) (View E)) → HallInvariant M log o s → length log + 1 < 2 ^ 64
+  pub never_wraps : (log : List (Entry E)) (o : Owners) (s : State (Option P) (View E)) → PartsHold M log o s → length log + 1 < 2 ^ 64
   never_wraps log o s kept =
       let b = bounded s.views kept.hands.few in
       let h = kept.hands.handed in
@@ -36,6 +41,8 @@ module _ {P E T F : Type 0} (M : Meaning P E T F) (laws : Laws M) where
     pub stands : M.stands event (replay M v.log)
     pub fits : M.fits event (replay M v.log)
     pub names : (q : ℕ) → M.names event ≡ Some q → has q v.sessions ≡ true
+    -- a block that it thaws was drained
+    pub drained : (k : ℕ) → M.thaws event ≡ Some k → v.drained ≡ suc k
 
   -- It is lawful by every later log that the pass can see.
   pub stays_lawful : (id : ℕ) (hand : List (Option P)) (v : View E) (event : E) (log : List (Entry E)) → M.sound (replay M v.log) → length (replay M v.log) ≡ length M.start
@@ -50,9 +57,9 @@ module _ {P E T F : Type 0} (M : Meaning P E T F) (laws : Laws M) where
   module _ (slots id : ℕ) (v : View E) (live : v.spent ≡ false) (hand : List (Option P)) (e : Entry E) (pass : e.pass ≡ id) (under : has e.session v.sessions ≡ true) (asks : Asks hand v e.event) (may : e.refused ≡ true → M.takes_memory e.event ≡ true)
       (held : (k : ℕ) → Holds hand k → stage v k ≡ 2) (none_out : v.out ≡ 0) (few : length v.mine < 2 ^ 56 * hands_of v)
       (ok : M.sound (replay M v.log)) (room : length (replay M v.log) ≡ length M.start) where
-    module _ (log : List (Entry E)) (o : Owners) (s : State (Option P) (View E)) (kept : HallInvariant M log o s) (at : get_elem? s.views id ≡ maybe.some v) where
+    module _ (log : List (Entry E)) (o : Owners) (s : State (Option P) (View E)) (kept : PartsHold M log o s) (words : WordsHold M log s) (at : get_elem? s.views id ≡ maybe.some v) where
       new : Learned M id v log
-      new = learns M laws log o s id v kept at live
+      new = learns M laws log o s id v kept words at live
 
       still : Agrees hand (replay M log) × M.stands e.event (replay M log) × M.fits e.event (replay M log)
       still = stays_lawful id hand v e.event log ok room asks held new
@@ -115,20 +122,27 @@ module _ {P E T F : Type 0} (M : Meaning P E T F) (laws : Laws M) where
     adds s kept deep at fits =
         let log = kept.0 in
         let n : ℕ = slice_index s.words 0 in
-        let counted : n ≡ length log = kept.2.one_log.counted in
-        let small = never_wraps log kept.1 s kept.2 in
+        let counted : n ≡ length log = (parts_of kept.2).one_log.counted in
+        let small = never_wraps log kept.1 s (parts_of kept.2) in
         let next : (n + 1) % 2 ^ 64 ≡ length log + 1 = mod-eq_of_lt (let c : n + 1 < 2 ^ 64 = omega (arith, counted, small) in c) ∙ ap (λ (m : ℕ). m + 1) counted in
-        let wide : 0 < length s.words = let w = kept.2.at_home.wide in omega (arith, w) in (
+        let wide : 0 < length s.words = let w = (parts_of kept.2).at_home.wide in omega (arith, w) in
+        let w : View E = added v log e in
+        let words : WordsHold M (log ++ e ∷ []) record { words = set s.words 0 ((n + 1) % 2 ^ 64); homes = s.homes; views = set s.views id w } =
+        event_words M laws log kept.1 s (set s.words 0 ((n + 1) % 2 ^ 64)) s.homes id v e (parts_of kept.2) (words_of kept.2) at live (new log kept.1 s (parts_of kept.2) (words_of kept.2) at).sound (still log kept.1 s (parts_of kept.2) (words_of kept.2) at).1 (still log kept.1 s (parts_of kept.2) (words_of kept.2) at).2 (new log kept.1 s (parts_of kept.2) (words_of kept.2) at).room
+        (left log kept.1 s (parts_of kept.2) (words_of kept.2) at) asks.drained
+        (λ i. get_or-set_other s.words 0 (block_word i) ((n + 1) % 2 ^ 64) 0 (λ x. absurd (omega (arith, x)))) (λ i. get_or-set_other s.words 0 (latch_word i) ((n + 1) % 2 ^ 64) 0 (λ x. absurd (omega (arith, x)))) in
+        let there : get_elem? (set s.views id w) id ≡ maybe.some w = set_here s.views id w (at_below s.views id v at) in (
           added v log e,
           keeps,
           tt,
           (
             log ++ e ∷ [],
             kept.1,
-            moved M log (e ∷ []) kept.1 kept.1.part s (set s.words 0 ((n + 1) % 2 ^ 64)) s.homes id v (added v log e) kept.2 at live
-                (ending log kept.1 s kept.2 at (set s.words 0 ((n + 1) % 2 ^ 64)) (get_or-set_same s.words 0 ((n + 1) % 2 ^ 64) 0 wide ∙ next) (length-set s.words 0 ((n + 1) % 2 ^ 64)) (λ i. get_or-set_other s.words 0 (latch_word i) ((n + 1) % 2 ^ 64) 0 (λ x. absurd (omega (arith, x))))) laws,
+            both (moved M log (e ∷ []) kept.1 kept.1.part s (set s.words 0 ((n + 1) % 2 ^ 64)) s.homes id v (added v log e) (parts_of kept.2) at live
+                (ending log kept.1 s (parts_of kept.2) (words_of kept.2) at (set s.words 0 ((n + 1) % 2 ^ 64)) (get_or-set_same s.words 0 ((n + 1) % 2 ^ 64) 0 wide ∙ next) (length-set s.words 0 ((n + 1) % 2 ^ 64)) (λ i. get_or-set_other s.words 0 (latch_word i) ((n + 1) % 2 ^ 64) 0 (λ x. absurd (omega (arith, x))))) laws)
+                words,
           ),
-          (log, new log kept.1 s kept.2 at, refl, refl),
+          (log, new log kept.1 s (parts_of kept.2) (words_of kept.2) at, refl, refl, (λ k p is value. (words.claims.each id w there k is).imaged p value)),
         )
 
   -- A load of the event word, by which the pass sees the whole log.
@@ -136,7 +150,7 @@ module _ {P E T F : Type 0} (M : Meaning P E T F) (laws : Laws M) where
   sees slots id v live s kept deep at fits =
       let log = kept.0 in
       let w : View E = record v { log = log } in
-      let old = kept.2.at_home.each id v at live in (
+      let old = (parts_of kept.2).at_home.each id v at live in (
         w,
         keeps,
         tt,
@@ -144,7 +158,7 @@ module _ {P E T F : Type 0} (M : Meaning P E T F) (laws : Laws M) where
           log,
           kept.1,
           subst (λ (ws : List ℕ). HallInvariant M log kept.1 record { words = ws; homes = s.homes; views = set s.views id w }) (sym (unset s.words 0))
-              (stirred M laws log kept.1 kept.1.part s s.words s.homes id v w kept.2 at live (record {
+              (both (stirred M laws log kept.1 kept.1.part s s.words s.homes id v w (parts_of kept.2) at live (record {
                 lasts = refl;
                 before = inl refl;
                 live = live;
@@ -152,7 +166,7 @@ module _ {P E T F : Type 0} (M : Meaning P E T F) (laws : Laws M) where
                 counted = refl;
                 wide = refl;
                 deep = refl;
-                idle = kept.2.hands.idle id v at;
+                idle = (parts_of kept.2).hands.idle id v at;
                 same = λ k below was is. (refl, refl, refl);
                 fresh = λ k was is. absurd (is was);
                 free = λ k below either' none'. let h : stage v k ≢ 0 = ⊎_elim (λ a. a) (λ a. a) either' in let x = (old.holds k h).1 in absurd (omega (arith, x, none'));
@@ -166,7 +180,8 @@ module _ {P E T F : Type 0} (M : Meaning P E T F) (laws : Laws M) where
                   out = old.out;
                   ever = old.ever;
                 };
-              })),
+              }))
+              (still_words M log kept.1 s s.homes id v w (parts_of kept.2) (words_of kept.2) at live refl)),
         ),
-        (log, learns M laws log kept.1 s id v kept.2 at live, refl, refl),
+        (log, learns M laws log kept.1 s id v (parts_of kept.2) (words_of kept.2) at live, refl, refl),
       )

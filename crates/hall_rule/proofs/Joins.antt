@@ -3,10 +3,10 @@ use Rattle.std.proofs.Common.{◌≡◌, ◌≢◌, ℕ, ◌+◌, ◌*◌, ◌^�
 use Rattle.std.specs.Prelude.{slice_index}
 use mathlib.Core.Option as maybe
 use lib.ListN.{get_elem?}
-use Rattle.atomic_table.specs.Table.{Joins, State}
+use Rattle.atomic_table.specs.Table.{State}
 use Rattle.atomic_table.proofs.Lists.{at_set, set_else, set_here}
 use Rattle.hall_rule.specs.EventLog.{MadeBelow, Spares, Tied, Untouched, after, has, own, replay, replay_from}
-use Rattle.hall_rule.specs.HallInvariant.{EachLive, GoesOn, HallInvariant, HoldsParts, Owners, OwnsSessions, Rule, SeesLog, entries_of, hands_of, latch_word, since, stage}
+use Rattle.hall_rule.specs.HallInvariant.{EachLive, GoesOn, HoldsParts, Owners, OwnsSessions, SeesLog, entries_of, hands_of, latch_word, since, stage}
 use Rattle.hall_rule.specs.Meaning.{Laws, Meaning}
 use Rattle.hall_rule.specs.Views.{among, joined_by, longer, spent_view}
 use Rattle.hall_rule.specs.declared.view.Entry.{Entry}
@@ -16,6 +16,7 @@ use Rattle.hall_rule.proofs.Logs.{own_append, replay_append}
 use Rattle.hall_rule.proofs.Moved.{still_open, still_true}
 use Rattle.hall_rule.proofs.Named.{among_is, only_more}
 use Rattle.hall_rule.proofs.Numbers.{distinct_append, has_append, has_left, has_right}
+use Rattle.hall_rule.proofs.Halves.{PartsHold}
 
 -- a list of length 0 is empty
 pub length_zero : {A : Type 0} (l : List A) → length l ≡ 0 → l ≡ []
@@ -104,7 +105,7 @@ module _ {P E T F : Type 0} (M : Meaning P E T F) where
     pub own_later : (ps : List ℕ) → own ps (since v log) ≡ [] → own ps (drop (length l) log) ≡ []
     own_later ps a = own_back ps mid.0 (drop (length l) log) (ap (own ps) (sym mid.2) ∙ a)
 
-  module _ (laws : Laws M) (log : List (Entry E)) (o : Owners) (s : State (Option P) (View E)) (kept : HallInvariant M log o s) (id : ℕ) (v : View E)
+  module _ (laws : Laws M) (log : List (Entry E)) (o : Owners) (s : State (Option P) (View E)) (kept : PartsHold M log o s) (id : ℕ) (v : View E)
       (at : get_elem? s.views id ≡ maybe.some v) (live : v.spent ≡ false) (other : ℕ) (u : View E) (else : other ≢ id) (there : get_elem? s.views other ≡ maybe.some u) (alive : u.spent ≡ false)
       (empty : (k : ℕ) → stage u k ≡ 0) where
     abbrev both : View E
@@ -285,7 +286,7 @@ module _ {P E T F : Type 0} (M : Meaning P E T F) where
     there' = set_else s.views id other both else ∙ there
 
     -- the invariant holds of the hall with the two passes in one
-    pub join_kept : HallInvariant M log record { part = o.part; number = number; session = session } record { words = s.words; homes = s.homes; views = views }
+    pub join_kept : PartsHold M log record { part = o.part; number = number; session = session } record { words = s.words; homes = s.homes; views = views }
     join_kept = record {
       one_log = record {
         counted = kept.one_log.counted;
@@ -340,12 +341,3 @@ module _ {P E T F : Type 0} (M : Meaning P E T F) where
             (λ _ k. refl) kept.hands.idle;
       };
     }
-
-  -- A pass takes in another that holds no part, and the invariant is kept.
-  pub joins : (laws : Laws M) (id : ℕ) (v : View E) (other : ℕ) (u : View E) → v.spent ≡ false → u.spent ≡ false → ((k : ℕ) → stage u k ≡ 0) → Joins (Rule M) id v other u (joined_by id other v u) spent_view
-  joins laws id v other u live alive empty s held at else there' =
-      let there : get_elem? s.views other ≡ maybe.some u = sym (set_else s.views id other (joined_by id other v u) else) ∙ there' in (
-        held.0,
-        record { part = held.1.part; number = (λ i. cond (has i (other ∷ u.joined)) id (held.1.number i)); session = (λ q. cond (has q u.sessions) id (held.1.session q)) },
-        join_kept laws held.0 held.1 s held.2 id v at live other u else there alive empty,
-      )

@@ -8,7 +8,8 @@ use Rattle.atomic_table.specs.Table.{Act, Allows, State, Valid, carried_after, s
 use Rattle.atomic_table.specs.Table.Act.{keeps, takes, gives}
 use Rattle.atomic_table.proofs.Lists.{set_else, set_here}
 use Rattle.hall_rule.specs.EventLog.{Untouched, has, replay, replay_from}
-use Rattle.hall_rule.specs.HallInvariant.{AtHome, HallInvariant, Owners, Rule, hands_of, latch_word, since, stage}
+use Rattle.hall_rule.specs.HallInvariant.{AtHome, HallInvariant, Owners, hands_of, latch_word, since, stage, worn_by}
+use Rattle.hall_rule.specs.Rule.{Rule}
 use Rattle.hall_rule.specs.Meaning.{Laws, Meaning}
 use Rattle.hall_rule.specs.Views.{Draws, Gives, Homes, Latches, Learned, Loads, drawn, given, homed, loaded, staged}
 use Rattle.hall_rule.specs.Slots.{slot_of}
@@ -16,9 +17,11 @@ use Rattle.hall_rule.specs.declared.view.Entry.{Entry}
 use Rattle.hall_rule.specs.declared.view.View.{View}
 use Rattle.hall_rule.proofs.Lists.{by_cases, others_few, total_at}
 use Rattle.hall_rule.proofs.Logs.{replay_append, room_stands, since_whole, sound_after, untouched_same}
+use Rattle.hall_rule.proofs.LatchWords.{giving_words, loading_words, still_words, taken_words}
 use Rattle.hall_rule.proofs.Moved.{later_lawful, later_state}
 use Rattle.hall_rule.proofs.Numbers.{has_here, has_left, has_right}
 use Rattle.hall_rule.proofs.Quiet.{Stirs, stirred}
+use Rattle.hall_rule.proofs.Halves.{PartsHold, WordsHold, both, parts_of, words_of}
 
 -- the stage of a part after it was set
 pub stage_here : {E : Type 0} (v : View E) (k n : ℕ) → k < length v.stages → slice_index (set v.stages k n) k ≡ n
@@ -36,8 +39,8 @@ unset (x ∷ xs) (suc i) = ap (λ l. x ∷ l) (unset xs i)
 
 module _ {P E T F : Type 0} (M : Meaning P E T F) (laws : Laws M) where
   -- What a view learns when it sees the whole log.
-  pub learns : (log : List (Entry E)) (o : Owners) (s : State (Option P) (View E)) (id : ℕ) (v : View E) → HallInvariant M log o s → get_elem? s.views id ≡ maybe.some v → v.spent ≡ false → Learned M id v log
-  learns log o s id v kept at live =
+  pub learns : (log : List (Entry E)) (o : Owners) (s : State (Option P) (View E)) (id : ℕ) (v : View E) → PartsHold M log o s → WordsHold M log s → get_elem? s.views id ≡ maybe.some v → v.spent ≡ false → Learned M id v log
+  learns log o s id v kept words at live =
       let l = kept.one_log.each id v at live in
       let t = kept.lawful.each id v at live in
       let b = later_lawful M laws log v l.goes_on kept.lawful.lawful in
@@ -66,11 +69,12 @@ module _ {P E T F : Type 0} (M : Meaning P E T F) (laws : Laws M) where
         few = kept.hands.few id v at;
         budget = let n = others_few s.views id v at kept.hands.few in let h = kept.hands.handed in let e = kept.hands.entries in omega (arith, n, h, e);
         limit = kept.hands.limit;
+        imaged = λ k p is there. (words.claims.each id v at k is).imaged p there;
       }
 
   module _ (slots id : ℕ) (v : View E) (k : ℕ) (live : v.spent ≡ false) (lt : k < length M.start) (room : k < length v.stages) where
     -- The latch of the part k was free, and is taken now.
-    taken : (log : List (Entry E)) (o : Owners) (s : State (Option P) (View E)) → HallInvariant M log o s → get_elem? s.views id ≡ maybe.some v
+    taken : (log : List (Entry E)) (o : Owners) (s : State (Option P) (View E)) → PartsHold M log o s → get_elem? s.views id ≡ maybe.some v
         → stage v k ≡ 0 → hands_of v ≢ 0 → slice_index s.words (latch_word k) ≡ 0 → Stirs M log o (λ i. cond (eqb i k) id (o.part i)) s (set s.words (latch_word k) 1) s.homes id v (staged v k 1)
     taken log o s kept at away hand free =
         let old = kept.at_home.each id v at live in
@@ -135,7 +139,7 @@ module _ {P E T F : Type 0} (M : Meaning P E T F) (laws : Laws M) where
           staged v k 1,
           keeps,
           tt,
-          (held.0, record { part = (λ (i : ℕ). cond (eqb i k) id (held.1.part i)); number = held.1.number; session = held.1.session }, stirred M laws held.0 held.1 (λ (i : ℕ). cond (eqb i k) id (held.1.part i)) s (set s.words (latch_word k) 1) s.homes id v (staged v k 1) held.2 at live (taken held.0 held.1 s held.2 at away hand e)),
+          (held.0, record { part = (λ (i : ℕ). cond (eqb i k) id (held.1.part i)); number = held.1.number; session = held.1.session }, both (stirred M laws held.0 held.1 (λ (i : ℕ). cond (eqb i k) id (held.1.part i)) s (set s.words (latch_word k) 1) s.homes id v (staged v k 1) (parts_of held.2) at live (taken held.0 held.1 s (parts_of held.2) at away hand e)) (taken_words M held.0 held.1 s s.homes id v k (parts_of held.2) (words_of held.2) at live lt room e away)),
           (sym (ap (λ (x : Bool). cond x (staged v k 1) v) b), refl),
         ))
         (λ ne.
@@ -144,22 +148,27 @@ module _ {P E T F : Type 0} (M : Meaning P E T F) (laws : Laws M) where
           v,
           keeps,
           tt,
-          (held.0, held.1, subst (λ (ws : List ℕ). HallInvariant M held.0 held.1 record { words = ws; homes = s.homes; views = set s.views id v }) (sym (unset s.words (latch_word k))) (subst (λ (vs : List (View E)). HallInvariant M held.0 held.1 record { words = s.words; homes = s.homes; views = vs }) (sym (Rattle.atomic_table.proofs.Lists.set_again s.views id v at)) held.2)),
+          (
+            held.0,
+            held.1,
+            subst (λ (ws : List ℕ). HallInvariant M held.0 held.1 record { words = ws; homes = s.homes; views = set s.views id v }) (sym (unset s.words (latch_word k)))
+                (subst (λ (vs : List (View E)). HallInvariant M held.0 held.1 record { words = s.words; homes = s.homes; views = vs }) (sym (Rattle.atomic_table.proofs.Lists.set_again s.views id v at)) held.2),
+          ),
           (sym (ap (λ (x : Bool). cond x (staged v k 1) v) b), refl),
         ))
 
     -- The event word is loaded, and the part, which is at home, goes out.
-    loading : (log : List (Entry E)) (o : Owners) (s : State (Option P) (View E)) → HallInvariant M log o s → get_elem? s.views id ≡ maybe.some v
-        → stage v k ≡ 1 → v.out ≡ 0 → Stirs M log o o.part s s.words (set s.homes (slot_of k) maybe.none) id v (loaded v k log)
-    loading log o s kept at one none_out =
+    loading : (head : ℕ) (log : List (Entry E)) (o : Owners) (s : State (Option P) (View E)) → PartsHold M log o s → get_elem? s.views id ≡ maybe.some v
+        → stage v k ≡ 1 → v.out ≡ 0 → Stirs M log o o.part s s.words (set s.homes (slot_of k) maybe.none) id v (loaded v k head log)
+    loading head log o s kept at one none_out =
         let old = kept.at_home.each id v at live in
         let here = stage_here v k 2 room in
-        let else : (i : ℕ) → i ≢ k → stage (loaded v k log) i ≡ stage v i = λ (i : ℕ) ne. stage_else v k 2 i ne in
+        let else : (i : ℕ) → i ≢ k → stage (loaded v k head log) i ≡ stage v i = λ (i : ℕ) ne. stage_else v k 2 i ne in
         let home : (i : ℕ) → i ≢ k → get_elem? (set s.homes (slot_of k) maybe.none) (slot_of i) ≡ get_elem? s.homes (slot_of i) = λ (i : ℕ) ne. set_else s.homes (slot_of k) (slot_of i) maybe.none (λ e. ne (omega (arith, e))) in
-        let before : (i : ℕ) → (stage v i ≢ 0) ⊎ (stage (loaded v k log) i ≢ 0) → stage v i ≢ 0 = λ (i : ℕ) held. by_cases i k (stage v i ≢ 0)
+        let before : (i : ℕ) → (stage v i ≢ 0) ⊎ (stage (loaded v k head log) i ≢ 0) → stage v i ≢ 0 = λ (i : ℕ) held. by_cases i k (stage v i ≢ 0)
         (λ e z. absurd (let h = subst (λ (x : ℕ). stage v x ≡ 0) e z in omega (arith, h, one))) (λ ne. ⊎_elim (λ a. a) (λ a e. a (else i ne ∙ e)) held) in
-        let now : (i : ℕ) → stage v i ≢ 0 → stage (loaded v k log) i ≢ 0 = λ (i : ℕ) held. by_cases i k (stage (loaded v k log) i ≢ 0)
-        (λ e z. absurd (let h = subst (λ (x : ℕ). stage (loaded v k log) x ≡ 0) e z in omega (arith, h, here))) (λ ne z. held (sym (else i ne) ∙ z)) in
+        let now : (i : ℕ) → stage v i ≢ 0 → stage (loaded v k head log) i ≢ 0 = λ (i : ℕ) held. by_cases i k (stage (loaded v k head log) i ≢ 0)
+        (λ e z. absurd (let h = subst (λ (x : ℕ). stage (loaded v k head log) x ≡ 0) e z in omega (arith, h, here))) (λ ne z. held (sym (else i ne) ∙ z)) in
         record {
           lasts = refl;
           before = inr refl;
@@ -178,15 +187,15 @@ module _ {P E T F : Type 0} (M : Meaning P E T F) (laws : Laws M) where
           parts = record {
             holds = λ i held. old.holds i (before i (inr held));
             taken = λ i first.
-                let ne : i ≢ k = λ e. absurd (let h = subst (λ (x : ℕ). stage (loaded v k log) x ≡ 1) e first in omega (arith, h, here)) in
+                let ne : i ≢ k = λ e. absurd (let h = subst (λ (x : ℕ). stage (loaded v k head log) x ≡ 1) e first in omega (arith, h, here)) in
                 let h = old.taken i (sym (else i ne) ∙ first) in
                 (h.0, h.1, home i ne ∙ h.2);
-            loaded = λ i two. subst (Untouched M i (replay M log)) (sym (since_whole (loaded v k log) log refl)) tt;
-            kept = λ i two. subst (Untouched M i (replay M log)) (sym (since_whole (loaded v k log) log refl)) tt;
+            loaded = λ i two. subst (Untouched M i (replay M log)) (sym (since_whole (loaded v k head log) log refl)) tt;
+            kept = λ i two. subst (Untouched M i (replay M log)) (sym (since_whole (loaded v k head log) log refl)) tt;
             in_hand = λ i two out.
                 let ne : i ≢ k = λ e. out (ap suc (sym e)) in
                 home i ne ∙ old.in_hand i (sym (else i ne) ∙ two) (λ e. absurd (omega (arith, e, none_out)));
-            out = λ i e. let same : i ≡ k = omega (arith, e) in subst (λ (x : ℕ). stage (loaded v k log) x ≡ 2) (sym same) here;
+            out = λ i e. let same : i ≡ k = omega (arith, e) in subst (λ (x : ℕ). stage (loaded v k head log) x ≡ 2) (sym same) here;
             ever = λ i held. old.ever i (before i (inr held));
           };
         }
@@ -195,22 +204,24 @@ module _ {P E T F : Type 0} (M : Meaning P E T F) (laws : Laws M) where
     pub loads : stage v k ≡ 1 → v.out ≡ 0 → Allows (Rule M) slots id (v, []) 0 (λ n. n) (Loads M id v k)
     loads one none_out s held deep at fits =
         let log = held.0 in
-        let kept = held.2 in
-        let home = (kept.at_home.each id v at live).taken k one in (
-          loaded v k log,
+        let kept = (parts_of held.2) in
+        let home = (kept.at_home.each id v at live).taken k one in
+        let head : ℕ = M.head home.0 in (
+          loaded v k head log,
           takes (slot_of k) (Some home.0),
           home.2,
           (
             log,
             held.1,
-            subst (λ (ws : List ℕ). HallInvariant M log held.1 record { words = ws; homes = set s.homes (slot_of k) maybe.none; views = set s.views id (loaded v k log) }) (sym (unset s.words 0))
-                (stirred M laws log held.1 held.1.part s s.words (set s.homes (slot_of k) maybe.none) id v (loaded v k log) kept at live (loading log held.1 s kept at one none_out)),
+            subst (λ (ws : List ℕ). HallInvariant M log held.1 record { words = ws; homes = set s.homes (slot_of k) maybe.none; views = set s.views id (loaded v k head log) }) (sym (unset s.words 0))
+                (both (stirred M laws log held.1 held.1.part s s.words (set s.homes (slot_of k) maybe.none) id v (loaded v k head log) kept at live (loading head log held.1 s kept at one none_out))
+                (loading_words M log held.1 s (set s.homes (slot_of k) maybe.none) id v k kept (words_of held.2) at live lt room home.0 one home.1)),
           ),
-          (log, home.0, learns log held.1 s id v kept at live, home.1, refl, refl),
+          (log, home.0, learns log held.1 s id v kept (words_of held.2) at live, home.1, refl, refl),
         )
 
     -- One slot changes whose part is in the view's hand, and nothing else but what is out.
-    shifting : (log : List (Entry E)) (o : Owners) (s : State (Option P) (View E)) (h : maybe.Option (Option P)) (out : ℕ) → HallInvariant M log o s → get_elem? s.views id ≡ maybe.some v
+    shifting : (log : List (Entry E)) (o : Owners) (s : State (Option P) (View E)) (h : maybe.Option (Option P)) (out : ℕ) → PartsHold M log o s → get_elem? s.views id ≡ maybe.some v
         → stage v k ≡ 2
         → ((i : ℕ) → stage v i ≡ 2 → out ≢ suc i → get_elem? (set s.homes (slot_of k) h) (slot_of i) ≡ maybe.some (maybe.some None)) → ((i : ℕ) → out ≡ suc i → stage v i ≡ 2)
         → Stirs M log o o.part s s.words (set s.homes (slot_of k) h) id v (record v { out = out })
@@ -242,14 +253,14 @@ module _ {P E T F : Type 0} (M : Meaning P E T F) (laws : Laws M) where
           };
         }
 
-    in_slots : (s : State (Option P) (View E)) → (log : List (Entry E)) (o : Owners) → HallInvariant M log o s → slot_of k < length s.homes
+    in_slots : (s : State (Option P) (View E)) → (log : List (Entry E)) (o : Owners) → PartsHold M log o s → slot_of k < length s.homes
     in_slots s log o kept = let d = kept.at_home.deep in omega (arith, d, lt)
 
     -- The slot that is out is given home empty, and the part stays in the hand.
     pub homes : stage v k ≡ 2 → v.out ≡ suc k → Allows (Rule M) slots id (v, (slot_of k, None) ∷ []) (latch_word k) (λ n. n) (Homes M v)
     homes two is_out s held deep at fits =
         let log = held.0 in
-        let kept = held.2 in
+        let kept = (parts_of held.2) in
         let h : maybe.Option (Option P) = maybe.some None in (
           homed v,
           gives,
@@ -258,12 +269,13 @@ module _ {P E T F : Type 0} (M : Meaning P E T F) (laws : Laws M) where
             log,
             held.1,
             subst (λ (ws : List ℕ). HallInvariant M log held.1 record { words = ws; homes = set s.homes (slot_of k) h; views = set s.views id (homed v) }) (sym (unset s.words (latch_word k)))
-                (stirred M laws log held.1 held.1.part s s.words (set s.homes (slot_of k) h) id v (homed v) kept at live
+                (both (stirred M laws log held.1 held.1.part s s.words (set s.homes (slot_of k) h) id v (homed v) kept at live
                 (shifting log held.1 s h 0 kept at two
                 (λ i first away. by_cases i k (get_elem? (set s.homes (slot_of k) h) (slot_of i) ≡ maybe.some (maybe.some None))
                 (λ e. subst (λ (x : ℕ). get_elem? (set s.homes (slot_of k) h) (slot_of x) ≡ maybe.some (maybe.some None)) (sym e) (set_here s.homes (slot_of k) h (in_slots s log held.1 kept)))
                 (λ ne. set_else s.homes (slot_of k) (slot_of i) h (λ e. ne (omega (arith, e))) ∙ (kept.at_home.each id v at live).in_hand i first (λ e. ne (let x : suc i ≡ suc k = sym e ∙ is_out in omega (arith, x)))))
-                (λ i e. absurd (omega (arith, e))))),
+                (λ i e. absurd (omega (arith, e)))))
+                (still_words M log held.1 s (set s.homes (slot_of k) h) id v (homed v) kept (words_of held.2) at live refl)),
           ),
           (refl, refl),
         )
@@ -272,7 +284,7 @@ module _ {P E T F : Type 0} (M : Meaning P E T F) (laws : Laws M) where
     pub draws : stage v k ≡ 2 → v.out ≡ 0 → Allows (Rule M) slots id (v, []) (latch_word k) (λ n. n) (Draws M v k)
     draws two none_out s held deep at fits =
         let log = held.0 in
-        let kept = held.2 in
+        let kept = (parts_of held.2) in
         let h : maybe.Option (Option P) = maybe.none in (
           drawn v k,
           takes (slot_of k) None,
@@ -281,20 +293,21 @@ module _ {P E T F : Type 0} (M : Meaning P E T F) (laws : Laws M) where
             log,
             held.1,
             subst (λ (ws : List ℕ). HallInvariant M log held.1 record { words = ws; homes = set s.homes (slot_of k) h; views = set s.views id (drawn v k) }) (sym (unset s.words (latch_word k)))
-                (stirred M laws log held.1 held.1.part s s.words (set s.homes (slot_of k) h) id v (drawn v k) kept at live
+                (both (stirred M laws log held.1 held.1.part s s.words (set s.homes (slot_of k) h) id v (drawn v k) kept at live
                 (shifting log held.1 s h (suc k) kept at two
                 (λ i first away.
                 let ne : i ≢ k = λ e. away (ap suc (sym e)) in
                 set_else s.homes (slot_of k) (slot_of i) h (λ e. ne (omega (arith, e))) ∙ (kept.at_home.each id v at live).in_hand i first (λ e. absurd (omega (arith, e, none_out))))
-                (λ i e. let same : i ≡ k = omega (arith, e) in subst (λ (x : ℕ). stage v x ≡ 2) (sym same) two))),
+                (λ i e. let same : i ≡ k = omega (arith, e) in subst (λ (x : ℕ). stage v x ≡ 2) (sym same) two)))
+                (still_words M log held.1 s (set s.homes (slot_of k) h) id v (drawn v k) kept (words_of held.2) at live refl)),
           ),
           (refl, refl),
         )
 
     -- The part goes home, and its latch is free.
-    giving : (p : P) (log : List (Entry E)) (o : Owners) (s : State (Option P) (View E)) → HallInvariant M log o s → get_elem? s.views id ≡ maybe.some v
+    giving : (p : P) (log : List (Entry E)) (o : Owners) (s : State (Option P) (View E)) → PartsHold M log o s → WordsHold M log s → get_elem? s.views id ≡ maybe.some v
         → stage v k ≡ 2 → v.out ≡ suc k → slice_get (replay M v.log) k ≡ Some p → Stirs M log o o.part s (set s.words (latch_word k) 0) (set s.homes (slot_of k) (maybe.some (Some p))) id v (given v k)
-    giving p log o s kept at two is_out value =
+    giving p log o s kept words at two is_out value =
         let h : maybe.Option (Option P) = maybe.some (Some p) in
         let old = kept.at_home.each id v at live in
         let here = stage_here v k 0 room in
@@ -321,7 +334,7 @@ module _ {P E T F : Type 0} (M : Meaning P E T F) (laws : Laws M) where
           fresh = λ i was is. absurd (before i (inr is) was);
           free = λ i below held none'. by_cases i k (AtHome M log (set s.homes (slot_of k) h) i)
               (λ e. subst (AtHome M log (set s.homes (slot_of k) h)) (sym e)
-              (p, (learns log o s id v kept at live).parts k two ∙ value, set_here s.homes (slot_of k) h (in_slots s log o kept)))
+              (p, (learns log o s id v kept words at live).parts k two ∙ value, set_here s.homes (slot_of k) h (in_slots s log o kept)))
               (λ ne. absurd (let x = (old.holds i (before i held)).1 in let y = word i ne in omega (arith, x, y, none')));
           latched = λ i below held some'. by_cases i k ((o.part i ≡ id) × (stage (given v k) i ≢ 0))
               (λ e. absurd (some' (ap (λ (x : ℕ). slice_index (set s.words (latch_word k) 0) (latch_word x)) e ∙ zero')))
@@ -343,13 +356,18 @@ module _ {P E T F : Type 0} (M : Meaning P E T F) (laws : Laws M) where
         }
 
     -- The slot is given home with its part, and the latch is free again.
-    pub gives_back : (p : P) → stage v k ≡ 2 → v.out ≡ suc k → slice_get (replay M v.log) k ≡ Some p → Allows (Rule M) slots id (v, (slot_of k, Some p) ∷ []) (latch_word k) (λ _. 0) (λ _. Gives M v k 0)
-    gives_back p two is_out value s held deep at fits =
+    pub gives_back : (p : P) → stage v k ≡ 2 → v.out ≡ suc k → slice_get (replay M v.log) k ≡ Some p → v.drained ≡ 0 → worn_by v k ≡ M.head p → Allows (Rule M) slots id (v, (slot_of k, Some p) ∷ []) (latch_word k) (λ _. 0) (λ _. Gives M v k 0)
+    gives_back p two is_out value none_drained follows s held deep at fits =
         let log = held.0 in
-        let kept = held.2 in (
+        let kept = (parts_of held.2) in (
           given v k,
           gives,
           tt,
-          (log, held.1, stirred M laws log held.1 held.1.part s (set s.words (latch_word k) 0) (set s.homes (slot_of k) (maybe.some (Some p))) id v (given v k) kept at live (giving p log held.1 s kept at two is_out value)),
+          (
+            log,
+            held.1,
+            both (stirred M laws log held.1 held.1.part s (set s.words (latch_word k) 0) (set s.homes (slot_of k) (maybe.some (Some p))) id v (given v k) kept at live (giving p log held.1 s kept (words_of held.2) at two is_out value))
+                (giving_words M log held.1 s (set s.homes (slot_of k) (maybe.some (Some p))) id v k kept (words_of held.2) at live lt room p two none_drained follows ((learns log held.1 s id v kept (words_of held.2) at live).parts k two ∙ value)),
+          ),
           (refl, refl),
         )

@@ -1,6 +1,11 @@
 pub mod Closes
+pub mod Divided
+pub mod EventWords
 pub mod Events
+pub mod Halves
+pub mod Joined
 pub mod Joins
+pub mod LatchWords
 pub mod Latches
 pub mod Lists
 pub mod Logs
@@ -9,6 +14,10 @@ pub mod Moved
 pub mod Named
 pub mod Numbers
 pub mod OfParts
+pub mod Opened
 pub mod Opens
+pub mod PassWords
 pub mod Quiet
 pub mod Splits
+pub mod Turning
+pub mod Words

@@ -5,13 +5,14 @@ use mathlib.Core.Option as maybe
 use lib.ListN.{get_elem?}
 use Rattle.atomic_table.specs.Table.{State, opening}
 use Rattle.hall_rule.specs.EventLog.{Distinct, has, replay}
-use Rattle.hall_rule.specs.HallInvariant.{HallInvariant, HoldsParts, Owners, OwnsSessions, Rule, SeesLog, entries_of, hands_of, latch_word, stage}
+use Rattle.hall_rule.specs.HallInvariant.{HoldsParts, Owners, OwnsSessions, SeesLog, entries_of, hands_of, latch_word, stage}
 use Rattle.hall_rule.specs.Hands.{all_in}
 use Rattle.hall_rule.specs.Meaning.{Meaning}
 use Rattle.hall_rule.specs.Opening.{first_view, sessions_to}
 use Rattle.hall_rule.specs.Slots.{slot_of, spread}
 use Rattle.hall_rule.specs.declared.view.View.{View}
 use Rattle.hall_rule.proofs.Numbers.{distinct_append, has_append, has_cons}
+use Rattle.hall_rule.proofs.Halves.{PartsHold}
 
 -- the sessions 1 to n are n
 pub sessions_to-length : (n : ℕ) → length (sessions_to n) ≡ n
@@ -64,7 +65,7 @@ sessions_to-distinct zero = tt
 sessions_to-distinct (suc n) = distinct_append (sessions_to n) (suc n ∷ []) (sessions_to-distinct n) (refl, tt) (λ q a b. ⊎_elim (λ e. absurd (let r = below_to n q a in omega (arith, r, e))) (λ z. true≢false (sym z)) (has_cons q (suc n) [] b))
 
 module _ {P E T F : Type 0} (M : Meaning P E T F) (begins : M.sound M.start) (some' : 1 ≤ M.passes) (limit : M.passes ≤ 128)
-    (words : List ℕ) (wide : length words ≡ latch_word (length M.start + M.blocks)) (zero' : (k : ℕ) → slice_index words k ≡ 0) where
+    (words : List ℕ) (wide : length words ≡ latch_word (length M.start)) (zero' : (k : ℕ) → slice_index words k ≡ 0) where
   -- The table that the hall begins with: all parts in it, and the first view.
   abbrev at_first : State (Option P) (View E)
   at_first = opening words (spread (all_in M.start)) (first_view M.start M.passes)
@@ -78,11 +79,11 @@ module _ {P E T F : Type 0} (M : Meaning P E T F) (begins : M.sound M.start) (so
   none_held k = zeros (length M.start) k
 
   -- The first pass owns all parts, numbers and sessions.
-  abbrev owners : Owners
+  abbrev pub owners : Owners
   owners = record { part = (λ k. 0); number = (λ i. 0); session = (λ q. 0) }
 
   -- The table that the hall begins with keeps the invariant with an empty log.
-  kept : HallInvariant M [] owners at_first
+  pub kept : PartsHold M [] owners at_first
   kept = record {
     one_log = record {
       counted = zero' 0;
@@ -126,7 +127,3 @@ module _ {P E T F : Type 0} (M : Meaning P E T F) (begins : M.sound M.start) (so
       idle = alone (λ i u. hands_of u ≡ 0 → (k : ℕ) → stage u k ≡ 0) (λ none' k. none_held k);
     };
   }
-
-  -- The hall with its first pass, which has every hand, keeps the invariant.
-  pub opens : Rule M (opening words (spread (all_in M.start)) (first_view M.start M.passes))
-  opens = ([], owners, kept)

@@ -5,17 +5,18 @@ use mathlib.Core.Option as maybe
 use lib.ListN.{get_elem?}
 use Rattle.atomic_table.specs.Table.{State}
 use Rattle.hall_rule.specs.EventLog.{LawfulFrom, Spares, has, own}
-use Rattle.hall_rule.specs.HallInvariant.{AtHome, GoesOn, HallInvariant, HoldsParts, Owners, OwnsSessions, hands_of, latch_word, since, stage}
+use Rattle.hall_rule.specs.HallInvariant.{AtHome, GoesOn, HoldsParts, Owners, OwnsSessions, hands_of, latch_word, since, stage}
 use Rattle.hall_rule.specs.Meaning.{Laws, Meaning}
 use Rattle.hall_rule.specs.Slots.{slot_of}
 use Rattle.hall_rule.specs.declared.view.Entry.{Entry}
 use Rattle.hall_rule.specs.declared.view.View.{View}
 use Rattle.hall_rule.proofs.Logs.{goes_on_whole, rest_is, since_whole}
 use Rattle.hall_rule.proofs.Moved.{Homes, Moves, after_move, moved, with_parts}
+use Rattle.hall_rule.proofs.Halves.{PartsHold}
 
 -- What every step that makes no event leaves of a view as it was.
 abbrev pub lasting : {E : Type 0} → View E → View E
-lasting v = record v { log = []; before = []; stages = []; out = 0; taken = []; spent = false }
+lasting v = record v { log = []; before = []; stages = []; out = 0; taken = []; worn = []; drained = 0; claim = 0; claimed = 0; bump = 0; found = []; spent = false }
 
 module _ {P E T F : Type 0} (M : Meaning P E T F) where
   -- What a step owes that makes no event: the view's log stays, or becomes the whole log.
@@ -35,7 +36,7 @@ module _ {P E T F : Type 0} (M : Meaning P E T F) where
     pub parts : HoldsParts M log part words homes id w
 
   module _ (laws : Laws M) (log : List (Entry E)) (o : Owners) (part : ℕ → ℕ) (s : State (Option P) (View E)) (words : List ℕ) (homes : Homes M) (id : ℕ) (v w : View E)
-      (kept : HallInvariant M log o s) (at : get_elem? s.views id ≡ maybe.some v) (live : v.spent ≡ false) (q : Stirs log o part s words homes id v w) where
+      (kept : PartsHold M log o s) (at : get_elem? s.views id ≡ maybe.some v) (live : v.spent ≡ false) (q : Stirs log o part s words homes id v w) where
     goes_on : GoesOn w log
     goes_on = ⊎_elim
         (λ e. subst (λ l. log ≡ l ++ Rattle.std.proofs.Common.drop (length l) log) (sym e) (kept.one_log.each id v at live).goes_on)
@@ -102,5 +103,5 @@ module _ {P E T F : Type 0} (M : Meaning P E T F) where
         }
 
     -- A step that makes no event keeps the invariant.
-    pub stirred : HallInvariant M log (with_parts M o part) (after_move M log [] o part s words homes id v w)
-    stirred = subst (λ l. HallInvariant M l (with_parts M o part) (after_move M log [] o part s words homes id v w)) (append-nil log) (moved M log [] o part s words homes id v w kept at live owed laws)
+    pub stirred : PartsHold M log (with_parts M o part) (after_move M log [] o part s words homes id v w)
+    stirred = subst (λ l. PartsHold M l (with_parts M o part) (after_move M log [] o part s words homes id v w)) (append-nil log) (moved M log [] o part s words homes id v w kept at live owed laws)

@@ -3,19 +3,20 @@ use Rattle.std.proofs.Common.{◌≡◌, ◌≢◌, ℕ, zero, suc, ◌+◌, ◌
 use Rattle.std.specs.Prelude.{slice_index}
 use mathlib.Core.Option as maybe
 use lib.ListN.{get_elem?}
-use Rattle.atomic_table.specs.Table.{Splits, State}
+use Rattle.atomic_table.specs.Table.{State}
 use Rattle.atomic_table.proofs.Lists.{at_longer, at_set, set_else, set_here}
 use Rattle.hall_rule.specs.EventLog.{Distinct, MadeBelow, has, is_unnamed, own, replay}
-use Rattle.hall_rule.specs.HallInvariant.{EachLive, HallInvariant, HoldsParts, Owners, OwnsSessions, Rule, SeesLog, entries_of, hands_of, latch_word, since, stage}
+use Rattle.hall_rule.specs.HallInvariant.{EachLive, HoldsParts, Owners, OwnsSessions, SeesLog, entries_of, hands_of, latch_word, since, stage}
 use Rattle.hall_rule.specs.Meaning.{Meaning}
-use Rattle.hall_rule.specs.Views.{dealt, greatest, newcomer, without}
+use Rattle.hall_rule.specs.Views.{newcomer}
 use Rattle.hall_rule.specs.declared.view.Entry.{Entry}
 use Rattle.hall_rule.specs.declared.view.View.{View}
 use Rattle.hall_rule.proofs.Named.{fresh_is, none_only}
 use Rattle.hall_rule.proofs.Lists.{at_below, by_cases, each_set, not_true, total_set, total_snoc}
 use Rattle.hall_rule.proofs.Logs.{made_more}
-use Rattle.hall_rule.proofs.Numbers.{greatest_in, has_cons, has_without, without_distinct, without_gone, without_length}
+use Rattle.hall_rule.proofs.Numbers.{has_cons}
 use Rattle.hall_rule.proofs.Opens.{zeros}
+use Rattle.hall_rule.proofs.Halves.{PartsHold}
 
 -- what is there with one more view was there before, or is the new one
 pub at_snoc_index : {A : Type 0} (l : List A) (a b : A) (j : ℕ) → get_elem? (l ++ a ∷ []) j ≡ maybe.some b → (get_elem? l j ≡ maybe.some b) ⊎ ((j ≡ length l) × (a ≡ b))
@@ -37,7 +38,7 @@ module _ {E : Type 0} where
   made_front n [] ys a = tt
   made_front n (x ∷ xs) ys a = (a.0, made_front n xs ys a.1)
 
-module _ {P E T F : Type 0} (M : Meaning P E T F) (log : List (Entry E)) (o : Owners) (s : State (Option P) (View E)) (kept : HallInvariant M log o s) (id : ℕ) (v : View E)
+module _ {P E T F : Type 0} (M : Meaning P E T F) (log : List (Entry E)) (o : Owners) (s : State (Option P) (View E)) (kept : PartsHold M log o s) (id : ℕ) (v : View E)
     (at : get_elem? s.views id ≡ maybe.some v) (live : v.spent ≡ false) (ls rs : List ℕ)
     (in_left : (q : ℕ) → has q ls ≡ true → has q v.sessions ≡ true) (in_right : (q : ℕ) → has q rs ≡ true → has q v.sessions ≡ true)
     (apart : (q : ℕ) → has q ls ≡ true → has q rs ≡ true → ⊥) (distinct_left : Distinct ls) (distinct_right : Distinct rs)
@@ -155,7 +156,7 @@ module _ {P E T F : Type 0} (M : Meaning P E T F) (log : List (Entry E)) (o : Ow
       (at_snoc_index (set s.views id left) right u j found)
 
   -- the invariant holds of the hall with the new pass
-  pub split_kept : HallInvariant M log record { part = o.part; number = number; session = session } record { words = s.words; homes = s.homes; views = views }
+  pub split_kept : PartsHold M log record { part = o.part; number = number; session = session } record { words = s.words; homes = s.homes; views = views }
   split_kept = record {
     one_log = record {
       counted = kept.one_log.counted;
@@ -219,33 +220,3 @@ module _ {P E T F : Type 0} (M : Meaning P E T F) (log : List (Entry E)) (o : Ow
       idle = all_views (λ u. hands_of u ≡ 0 → (k : ℕ) → stage u k ≡ 0) idle (λ _ k. none_held k) kept.hands.idle;
     };
   }
-
--- the greatest of some sessions is one of them
-pub greatest_there : (qs : List ℕ) → 0 < length qs → has (greatest qs) qs ≡ true
-greatest_there [] h = absurd (omega (arith, h))
-greatest_there (q ∷ qs) h = greatest_in q qs
-
-module _ {P E T F : Type 0} (M : Meaning P E T F) (id : ℕ) (v : View E) (live : v.spent ≡ false) where
-  -- The hand of the greatest session goes to a new pass.
-  pub splits : Distinct v.sessions → 2 ≤ hands_of v → length v.mine ≤ 2 ^ 56 → Splits (Rule M) id v (dealt v) (newcomer v (greatest v.sessions ∷ []))
-  splits distinct two few s held at =
-      let g : ℕ = greatest v.sessions in
-      let there : has g v.sessions ≡ true = greatest_there v.sessions (omega (arith, two)) in
-      let n = without_length g v.sessions there in
-      let some' : 1 ≤ length (without g v.sessions) = omega (arith, n, two) in (
-        held.0,
-        record { part = held.1.part; number = (λ i. cond (eqb i (length s.views)) (length s.views) (held.1.number i)); session = (λ q. cond (has q (g ∷ [])) (length s.views) (held.1.session q)) },
-        split_kept M held.0 held.1 s held.2 id v at live (without g v.sessions) (g ∷ []) (λ q h. has_without g q v.sessions h)
-            (λ q h. ⊎_elim (λ e. ap (λ i. has i v.sessions) e ∙ there) (λ z. absurd (true≢false (sym z))) (has_cons q g [] h))
-            (λ q a b. ⊎_elim (λ e. without_gone g v.sessions distinct (ap (λ i. has i (without g v.sessions)) (sym e) ∙ a)) (λ z. true≢false (sym z)) (has_cons q g [] b))
-            (without_distinct g v.sessions distinct) (refl, tt) (omega (arith, n)) (omega (arith, few, some')) (λ none'. absurd (omega (arith, none', some'))),
-      )
-
-  -- A new pass without a hand.
-  pub notes : Splits (Rule M) id v v (newcomer v [])
-  notes s held at = (
-    held.0,
-    record { part = held.1.part; number = (λ i. cond (eqb i (length s.views)) (length s.views) (held.1.number i)); session = (λ q. cond (has q []) (length s.views) (held.1.session q)) },
-    split_kept M held.0 held.1 s held.2 id v at live v.sessions [] (λ q h. h) (λ q h. absurd (true≢false (sym h))) (λ q a b. true≢false (sym b)) (held.2.lawful.each id v at live).distinct tt
-        (omega arith) (held.2.hands.few id v at) (held.2.hands.idle id v at),
-  )

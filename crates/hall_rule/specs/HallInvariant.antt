@@ -1,14 +1,16 @@
--- What holds of a hall between any two atomic steps. The words are the event word, a latch word for
--- each part, and then the block words, and behind each of them fifteen that nobody uses. There is
--- a slot for each part, with three behind it that no step touches, and the view of each seat, whose
--- number is the pass's.
-use Rattle.std.specs.Prelude.{◌≡◌, ◌≢◌, ℕ, suc, ◌+◌, ◌*◌, ◌^◌, ◌<◌, ◌≤◌, true, false, List, [], ◌∷◌}
-use Rattle.std.specs.Prelude.{◌++◌, Option, None, Some, length, drop, slice_get, slice_index}
+-- What holds of a hall between any two atomic steps. The words are the event word, with fifteen
+-- behind it that nobody uses, and for each part that of its latch, that of its block, and fourteen
+-- that nobody uses. There is a slot for each part, with three behind it that no step touches, and
+-- the view of each seat, whose number is the pass's.
+use Rattle.std.specs.Prelude.{◌≡◌, ◌≢◌, ◌⊎◌, ℕ, suc, ◌+◌, ◌*◌, ◌^◌, ◌<◌, ◌≤◌, ◌==◌, true, false}
+use Rattle.std.specs.Prelude.{cond, List, [], ◌∷◌, ◌++◌, Option, None, Some, length, drop}
+use Rattle.std.specs.Prelude.{slice_get, slice_index}
 use mathlib.Core.Option as maybe
 use lib.ListN.{get_elem?}
 use Rattle.atomic_table.specs.Table.{State}
 use Rattle.hall_rule.specs.EventLog.{Distinct, LawfulFrom, MadeBelow, Spares, Tied, Untouched, has}
 use Rattle.hall_rule.specs.EventLog.{own, replay}
+use Rattle.hall_rule.specs.Heads.{IsFrozen, IsHot, head_in, readers_in}
 use Rattle.hall_rule.specs.Meaning.{Meaning}
 use Rattle.hall_rule.specs.Slots.{slot_of}
 use Rattle.hall_rule.specs.declared.view.Entry.{Entry}
@@ -23,9 +25,21 @@ pub record Owners : Type 0 where
 
 -- The word of the latch of the part k. Latches lie sixteen words apart from each other and from the
 -- event word, so that no two lie in the two lines of its cache that a processor fetches together. A
--- hall of k parts and block words has as many words in all.
+-- hall of k parts has as many words in all.
 abbrev pub latch_word : ℕ → ℕ
 latch_word k = 16 * k + 16
+
+-- The word of the block that the part k is. It lies in the line of the latch, which whoever turns
+-- the word has touched already. That of a part that is no block stays 0.
+abbrev pub block_word : ℕ → ℕ
+block_word k = latch_word k + 1
+
+-- The head of the word of the part k, and its readers.
+abbrev pub head_at : List ℕ → ℕ → ℕ
+head_at words k = head_in (slice_index words (block_word k))
+
+abbrev pub readers_at : List ℕ → ℕ → ℕ
+readers_at words k = readers_in (slice_index words (block_word k))
 
 module _ {E : Type 0} where
   -- The entries that the view has not seen.
@@ -55,6 +69,37 @@ module _ {E : Type 0} where
   abbrev pub EachLive : (ℕ → View E → Type 0) → List (View E) → Type 0
   EachLive holds views = (j : ℕ) (v : View E) → get_elem? views j ≡ maybe.some v → v.spent ≡ false
       → holds j v
+
+  -- The head that a view knows of the word of a part in its hand.
+  abbrev pub worn_by : View E → ℕ → ℕ
+  worn_by v k = slice_index v.worn k
+
+  -- How many claims and bumps of a view are on the part k, and how many it has.
+  abbrev pub readers_on : ℕ → View E → ℕ
+  readers_on k v = cond {A = ℕ} (v.claim == suc k) 1 0 + cond {A = ℕ} (v.bump == suc k) 1 0
+
+  abbrev pub readers_of : View E → ℕ
+  readers_of v = cond {A = ℕ} (v.claim == 0) 0 1 + cond {A = ℕ} (v.bump == 0) 0 1
+
+  -- A view that drained a part holds it, the part's word is hot, and nobody has a claim on it.
+  pub record Drains (views : List (View E)) (v : View E) (k : ℕ) : Type 0 where
+    pub held : stage v k ≡ 2
+    pub hot : IsHot (worn_by v k)
+    pub alone : (j : ℕ) (u : View E) → get_elem? views j ≡ maybe.some u → u.claim ≢ suc k
+
+  -- Drained blocks stay so.
+  pub record DrainsHold (views : List (View E)) : Type 0 where
+    pub each : EachLive (λ j v. (k : ℕ) → v.drained ≡ suc k → Drains views v k) views
+
+module _ {P E T F : Type 0} (M : Meaning P E T F) where
+  -- A word's readers are the claims and the bumps on its part, in all views. A view has at most one
+  -- of them, and one without a hand has none.
+  pub record ReadersCounted (s : State (Option P) (View E)) : Type 0 where
+    pub counted : (k : ℕ) → k < length M.start → readers_at s.words k
+        ≡ total_of (readers_on k) s.views
+    pub one : (j : ℕ) (v : View E) → get_elem? s.views j ≡ maybe.some v → readers_of v ≤ 1
+    pub idle : (j : ℕ) (v : View E) → get_elem? s.views j ≡ maybe.some v → hands_of v ≡ 0
+        → readers_of v ≡ 0
 
 module _ {P E T F : Type 0} (M : Meaning P E T F) (log : List (Entry E)) where
   -- The slot of the part k has that part of what the log leaves.
@@ -98,7 +143,7 @@ module _ {P E T F : Type 0} (M : Meaning P E T F) (log : List (Entry E)) where
 
   -- A part whose latch is free is at home, and one whose latch is taken is held by one view.
   pub record PartsAtHome (owners : Owners) (s : State (Option P) (View E)) : Type 0 where
-    pub wide : length s.words ≡ latch_word (length M.start + M.blocks)
+    pub wide : length s.words ≡ latch_word (length M.start)
     pub deep : length s.homes ≡ slot_of (length M.start)
     pub free : (k : ℕ) → k < length M.start → slice_index s.words (latch_word k) ≡ 0
         → AtHome s.homes k
@@ -145,15 +190,48 @@ module _ {P E T F : Type 0} (M : Meaning P E T F) (log : List (Entry E)) where
     pub idle : (j : ℕ) (v : View E) → get_elem? s.views j ≡ maybe.some v → hands_of v ≡ 0 → (k : ℕ)
         → stage v k ≡ 0
 
-  -- The invariant of a hall, for its log and for who has what.
+  -- The word of the part k follows the part.
+  abbrev pub Follows : List ℕ → ℕ → Type 0
+  Follows words k = (p : P) → slice_get (replay M log) k ≡ Some p → head_at words k ≡ M.head p
+
+  -- The words of the parts that a view holds follow the parts until the event word is loaded; from
+  -- then on they have the heads that the view knows. One that is frozen follows its part, whatever
+  -- the view has still to do.
+  pub record WearsWords (words : List ℕ) (j : ℕ) (v : View E) : Type 0 where
+    pub taken : (k : ℕ) → stage v k ≡ 1 → Follows words k
+    pub worn : (k : ℕ) → stage v k ≡ 2 → head_at words k ≡ worn_by v k
+    pub frozen : (k : ℕ) (p : P) → stage v k ≡ 2 → IsFrozen (worn_by v k)
+        → slice_get (replay M log) k ≡ Some p → M.head p ≡ worn_by v k
+    pub room : length v.worn ≡ length v.stages
+    pub stages : (k : ℕ) → stage v k ≤ 2
+
+  -- Words follow parts: that of a part whose latch is free does.
+  pub record WordsFollow (s : State (Option P) (View E)) : Type 0 where
+    pub free : (k : ℕ) → k < length M.start → slice_index s.words (latch_word k) ≡ 0
+        → Follows s.words k
+    pub each : EachLive (WearsWords s.words) s.views
+
+  -- A claim on the part k found it frozen. The part still has that state and stamp, and its word
+  -- has them too, or is hot with the same stamp, where a thaw waits.
+  pub record Claims (words : List ℕ) (v : View E) (k : ℕ) : Type 0 where
+    pub below : k < length M.start
+    pub frozen : IsFrozen v.claimed
+    pub imaged : (p : P) → slice_get (replay M log) k ≡ Some p → M.head p ≡ v.claimed
+    pub word : (head_at words k ≡ v.claimed) ⊎ (head_at words k + 3 * 2 ^ 30 ≡ v.claimed)
+
+  -- Claims are on frozen blocks.
+  pub record ClaimsHold (s : State (Option P) (View E)) : Type 0 where
+    pub each : (j : ℕ) (v : View E) → get_elem? s.views j ≡ maybe.some v → (k : ℕ)
+        → v.claim ≡ suc k → Claims s.words v k
+
+  -- The invariant of a hall, for its log and for who has what, in nine parts.
   pub record HallInvariant (owners : Owners) (s : State (Option P) (View E)) : Type 0 where
     pub one_log : OneLog owners s
     pub at_home : PartsAtHome owners s
     pub lawful : LawfulLog owners s
     pub facts : LastingFacts s
     pub hands : Hands s
-
--- The rule of the table: the invariant holds for some log and owners. What is said of block words,
--- by the same log, goes beside it.
-abbrev pub Rule : {P E T F : Type 0} → Meaning P E T F → State (Option P) (View E) → Type 0
-Rule {P} {E} {T} {F} M s = (log : List (Entry E)) × (owners : Owners) × HallInvariant M log owners s
+    pub words : WordsFollow s
+    pub readers : ReadersCounted M s
+    pub claims : ClaimsHold s
+    pub drains : DrainsHold s.views

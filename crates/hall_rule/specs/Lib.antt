@@ -1,8 +1,10 @@
 pub mod EventLog
 pub mod HallInvariant
 pub mod Hands
+pub mod Heads
 pub mod Marks
 pub mod Meaning
 pub mod Opening
+pub mod Rule
 pub mod Slots
 pub mod Views

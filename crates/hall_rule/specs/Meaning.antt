@@ -1,6 +1,8 @@
 -- What a hall knows of the core that it was built of, as plain data.
-use Rattle.std.specs.Prelude.{◌≡◌, ◌≢◌, ℕ, Bool, List, Option, Some, length}
+use Rattle.std.specs.Prelude.{◌≡◌, ◌≢◌, ℕ, ◌<◌, ◌^◌, Bool, List, Option, Some, false, length}
+use Rattle.std.specs.Prelude.{slice_get}
 use Rattle.hall_rule.specs.Hands.{Agrees, Covers, OnlyHeld}
+use Rattle.hall_rule.specs.Heads.{Turns, head_of}
 use Rattle.hall_rule.specs.declared.parts.Parts.{Ghosts}
 use Rattle.hall_rule.specs.declared.rule.Plan.{Plan}
 
@@ -17,13 +19,15 @@ pub record Meaning (P E T F : Type 0) : Type 1 where
   pub takes_memory : E → Bool
   pub transaction : List P → ℕ → Option T
   pub fact : F → List P → Type 0
+  -- the head that the word of a part follows, the part that an event thaws, and whether an event
+  -- may turn a word
+  pub head : P → ℕ
+  pub thaws : E → Option ℕ
+  pub turning : E → Bool
   -- for how many passes the hall was made
   pub passes : ℕ
-  -- how many block words stand behind the latch words, as far apart as these
-  pub blocks : ℕ
 
--- What a core means to a hall that is made for a number of passes. No block word stands behind
--- the latch words yet.
+-- What a core means to a hall that is made for a number of passes.
 abbrev pub meaning : {C P E R S T F : Type 0} → Ghosts C P E R S T F → C → ℕ → Meaning P E T F
 meaning core_type core passes = let shape = core_type.shape_of core in record {
   start = core_type.state_of core;
@@ -36,8 +40,10 @@ meaning core_type core passes = let shape = core_type.shape_of core in record {
   takes_memory = core_type.takes_memory;
   transaction = core_type.transaction shape;
   fact = core_type.fact shape;
+  head = λ part. head_of (core_type.wears part);
+  thaws = core_type.thaws shape;
+  turning = core_type.turning;
   passes = passes;
-  blocks = 0;
 }
 
 -- The same of what a hall was built of.
@@ -59,3 +65,10 @@ pub record Laws {P E T F : Type 0} (M : Meaning P E T F) : Type 0 where
       ≢ Some q → M.transaction (M.effect e s) q ≡ M.transaction s q
   pub outlives : (e : E) (f : F) (s : List P) → M.sound s → M.stands e s → M.fits e s → M.fact f s
       → M.fact f (M.effect e s)
+  pub small : (s : List P) (k : ℕ) (p : P) → M.sound s → slice_get s k ≡ Some p → M.head p < 2 ^ 32
+  pub turns : (e : E) (s : List P) (k : ℕ) (p q : P) → M.sound s → M.stands e s → M.fits e s
+      → slice_get s k ≡ Some p → slice_get (M.effect e s) k ≡ Some q
+      → Turns (M.thaws e ≡ Some k) (M.head p) (M.head q)
+  pub still : (e : E) (s : List P) (k : ℕ) (p q : P) → M.sound s → M.stands e s → M.fits e s
+      → M.turning e ≡ false → slice_get s k ≡ Some p → slice_get (M.effect e s) k ≡ Some q
+      → M.head q ≡ M.head p

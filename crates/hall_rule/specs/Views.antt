@@ -1,11 +1,12 @@
 -- How a view changes by each kind of step, and what the step tells.
 use Rattle.std.specs.Prelude.{◌≡◌, ℕ, suc, ◌+◌, ◌*◌, ◌^◌, ◌≤◌, ◌==◌, ◌&&◌, min, max, Bool, true}
 use Rattle.std.specs.Prelude.{false, cond, List, [], ◌∷◌, ◌++◌, Option, None, Some, drop, length}
-use Rattle.std.specs.Prelude.{fold, replicate, slice_get, slice_set, ltb}
+use Rattle.std.specs.Prelude.{fold, replicate, slice_get, slice_set, leb, ltb}
 use Rattle.atomic_table.specs.Table.{Me}
 use Rattle.hall_rule.specs.EventLog.{Distinct, LawfulFrom, Spares, Tied, has, is_unnamed, own}
 use Rattle.hall_rule.specs.EventLog.{replay}
-use Rattle.hall_rule.specs.HallInvariant.{GoesOn, hands_of, since, stage}
+use Rattle.hall_rule.specs.HallInvariant.{GoesOn, hands_of, since, stage, worn_by}
+use Rattle.hall_rule.specs.Heads.{head_in}
 use Rattle.hall_rule.specs.Meaning.{Meaning}
 use Rattle.hall_rule.specs.Slots.{slot_of}
 use Rattle.hall_rule.specs.declared.view.Entry.{Entry}
@@ -36,14 +37,50 @@ module _ {E : Type 0} where
   abbrev pub staged : View E → ℕ → ℕ → View E
   staged v k n = record v { stages = slice_set v.stages k n; taken = v.taken ++ k ∷ [] }
 
-  -- The whole log is seen, and the slot of the part k goes out.
-  abbrev pub loaded : View E → ℕ → List (Entry E) → View E
-  loaded v k log = record v {
+  -- The whole log is seen, and the slot of the part k goes out, whose word has this head.
+  abbrev pub loaded : View E → ℕ → ℕ → List (Entry E) → View E
+  loaded v k head log = record v {
     log = log;
     before = log;
     stages = slice_set v.stages k 2;
     out = suc k;
+    worn = slice_set v.worn k head;
   }
+
+  -- The word of the part k gets this head.
+  abbrev pub turned : View E → ℕ → ℕ → View E
+  turned v k head = record v { worn = slice_set v.worn k head; drained = 0 }
+
+  -- The word of the part k was loaded without a reader.
+  abbrev pub emptied : View E → ℕ → View E
+  emptied v k = record v { drained = suc k }
+
+  -- A claim on the part k, whose word had this head.
+  abbrev pub claimed : View E → ℕ → ℕ → View E
+  claimed v k n = record v {
+    claim = suc k;
+    claimed = head_in n;
+    found = v.found ++ record { part = k; word = n } ∷ [];
+  }
+
+  -- The word of the part k was bumped.
+  abbrev pub bumped : View E → ℕ → ℕ → View E
+  bumped v k n = record v {
+    bump = suc k;
+    found = v.found ++ record { part = k; word = n } ∷ [];
+  }
+
+  -- A word was entered, in which this number was found.
+  abbrev pub entered : View E → ℕ → ℕ → View E
+  entered v k n = cond (leb (3 * 2 ^ 30) (head_in n)) (claimed v k n) (bumped v k n)
+
+  -- The claim is given back, or the bump is taken back.
+  abbrev pub left : View E → View E
+  left v = record v { claim = 0; bump = 0 }
+
+  -- A word was entered, and left at once where it was not frozen.
+  abbrev pub tried : View E → ℕ → ℕ → View E
+  tried v k n = cond (leb (3 * 2 ^ 30) (head_in n)) (claimed v k n) (left (bumped v k n))
 
   -- The slot that is out is given home.
   abbrev pub homed : View E → View E
@@ -79,6 +116,7 @@ module _ {E : Type 0} where
     mine = v.mine ++ e ∷ [];
     made = v.made + 1;
     came = [];
+    drained = 0;
   }
 
   -- Those of some sessions under which no entry stands, as a view knows.
@@ -102,6 +140,12 @@ module _ {E : Type 0} where
     came = [];
     sole = fresh v sessions;
     taken = [];
+    worn = replicate (length v.worn) 0;
+    drained = 0;
+    claim = 0;
+    claimed = 0;
+    bump = 0;
+    found = [];
     spent = false;
   }
 
@@ -144,13 +188,25 @@ module _ {E : Type 0} where
     came = [];
     sole = [];
     taken = [];
+    worn = [];
+    drained = 0;
+    claim = 0;
+    claimed = 0;
+    bump = 0;
+    found = [];
     spent = true;
   }
 
 module _ {P E T F : Type 0} (M : Meaning P E T F) where
+  -- The block on which a view has a claim is frozen by what a log leaves, with the stamp that the
+  -- claim found.
+  abbrev pub KeepsClaim : View E → List (Entry E) → Type 0
+  KeepsClaim v log = (k : ℕ) (p : P) → v.claim ≡ suc k → slice_get (replay M log) k ≡ Some p
+      → M.head p ≡ v.claimed
+
   -- What a pass learns when it sees a longer log: that it is lawful, has of the pass's events those
-  -- that it made, and leaves the parts in its hand, the transactions of its sessions and all
-  -- lasting facts as they were.
+  -- that it made, and leaves the parts in its hand, the transactions of its sessions, the block on
+  -- which it has a claim and all lasting facts as they were.
   pub record Learned (id : ℕ) (v : View E) (log : List (Entry E)) : Type 0 where
     pub goes_on : GoesOn v log
     pub before : log ≡ v.before ++ drop (length v.before) log
@@ -182,6 +238,7 @@ module _ {P E T F : Type 0} (M : Meaning P E T F) where
     pub few : length v.mine ≤ 2 ^ 56 * hands_of v
     pub budget : length log + 2 ^ 56 * hands_of v ≤ 2 ^ 56 * M.passes + length v.mine
     pub limit : M.passes ≤ 128
+    pub imaged : KeepsClaim v log
 
   -- From one log to a later one: no entry since is of these sessions, so that their transactions
   -- are as they were; and lasting facts still hold.
@@ -199,7 +256,7 @@ module _ {P E T F : Type 0} (M : Meaning P E T F) where
   -- The log was seen, and the part k, as it leaves it, is out.
   abbrev pub Loads : ℕ → View E → ℕ → ℕ → Me (Option P) (View E) → Type 0
   Loads id v k n me = (log : List (Entry E)) × (p : P) × Learned id v log
-      × (slice_get (replay M log) k ≡ Some p) × (me.0 ≡ loaded v k log)
+      × (slice_get (replay M log) k ≡ Some p) × (me.0 ≡ loaded v k (M.head p) log)
       × (me.1 ≡ (slot_of k, Some p) ∷ [])
 
   -- The slot that was out is home.
@@ -217,9 +274,16 @@ module _ {P E T F : Type 0} (M : Meaning P E T F) where
   -- The log was seen, and an event is its last entry now.
   abbrev pub Adds : ℕ → View E → Entry E → ℕ → Me (Option P) (View E) → Type 0
   Adds id v e n me = (before : List (Entry E)) × Learned id v before × (me.0 ≡ added v before e)
-      × (me.1 ≡ [])
+      × (me.1 ≡ []) × KeepsClaim v (before ++ e ∷ [])
 
   -- The log was seen.
   abbrev pub Sees : ℕ → View E → ℕ → Me (Option P) (View E) → Type 0
   Sees id v n me = (log : List (Entry E)) × Learned id v log × (me.0 ≡ record v { log = log })
       × (me.1 ≡ [])
+
+  -- The word of the part k was entered, and the number n was found in it. Where the part is in the
+  -- hand, n has the head that the pass knows.
+  pub record Enters (v : View E) (k n : ℕ) (me : Me (Option P) (View E)) : Type 0 where
+    pub view : me.0 ≡ entered v k n
+    pub none_out : me.1 ≡ []
+    pub worn : stage v k ≡ 2 → head_in n ≡ worn_by v k

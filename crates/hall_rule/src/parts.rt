@@ -1,9 +1,12 @@
 //! A core in parts, on which a hall lets threads work.
 ghost use Rattle.std.specs.Prelude.{◌≡◌, ◌≢◌, ◌+◌, ◌^◌, ◌<◌, ◌≤◌, ℕ, Bool, true, List, Option};
-ghost use Rattle.std.specs.Prelude.{None, Some, MatchBool, IfOk, length, slice_get};
+ghost use Rattle.std.specs.Prelude.{None, Some, MatchBool, IfOk, false, length, slice_get};
 ghost use Rattle.hall_rule.specs.Hands.{Agrees, Covers, IsNext, OnlyHeld, SameRoom, all_in};
+ghost use Rattle.hall_rule.specs.Heads.{Turns, head_of};
+ghost use Rattle.hall_rule.specs.declared.head.Head.{Head};
 
 use crate::hand::Hand;
+use crate::head::Head;
 use std::alloc::AllocError;
 use std::sync::ledger::Ledger;
 use steps::Steps;
@@ -72,6 +75,15 @@ pub trait Parts: Sized {
     // Which lasting facts the reply to an event teaches.
     ghost teaches: { Self.Shape → Self.Event → Self.Reply → Self.Fact → Type 0 };
 
+    // The state and the stamp that the word of a part follows; none where the part is no block.
+    ghost wears: { Self.Part → Option Head };
+
+    // The part that an event thaws, if it thaws one.
+    ghost thaws: { Self.Shape → Self.Event → Option ℕ };
+
+    // Whether an event may turn the word of a part.
+    ghost turning: { Self.Event → Bool };
+
     /// How many parts the core has.
     fn parts(&self) -> u32
         ensures { result ≡ length (state_of self.now) };
@@ -129,6 +141,14 @@ pub trait Parts: Sized {
             → stands shape.now event s → fits shape.now event s
             → steps.new ≤ steps.old + cost shape.now event s };
 
+    /// The state and the stamp that the word of a part follows; none where the part is no block.
+    fn word(part: &Self::Part) -> Option<Head>
+        ensures { result ≡ wears part.now };
+
+    /// Whether the event may turn the word of a part. After any other event no word is looked at.
+    fn turns_words(event: &Self::Event) -> bool
+        ensures { result ≡ turning event.now };
+
     // An opening state is sound, and no session has a transaction in it.
     ghost opens: { (sh : Self.Shape) (s : List Self.Part) → opening sh s → sound sh s };
 
@@ -168,10 +188,31 @@ pub trait Parts: Sized {
         → stands sh e s → fits sh e s → names e ≢ Some q → transaction sh (effect sh e s) q
         ≡ transaction sh s q };
 
-    // A lasting fact outlives every lawful event, and what a reply teaches holds after it.
+    // A lasting fact outlives every lawful event.
     ghost outlives: { (sh : Self.Shape) (e : Self.Event) (f : Self.Fact) (s : List Self.Part)
         → sound sh s → stands sh e s → fits sh e s → fact sh f s → fact sh f (effect sh e s) };
 
+    // A block of an opening state is hot, and was never sealed.
+    ghost cold: { (sh : Self.Shape) (s : List Self.Part) (k : ℕ) (p : Self.Part) → opening sh s
+        → slice_get s k ≡ Some p → head_of (wears p) ≡ 0 };
+
+    // State and stamp have their room in a word.
+    ghost small: { (sh : Self.Shape) (s : List Self.Part) (k : ℕ) (p : Self.Part) → sound sh s
+        → slice_get s k ≡ Some p → head_of (wears p) < 2 ^ 32 };
+
+    // A lawful event leaves what a part's word is to say, or turns it.
+    ghost turns: { (sh : Self.Shape) (e : Self.Event) (s : List Self.Part) (k : ℕ)
+        (p q : Self.Part) → sound sh s → stands sh e s → fits sh e s → slice_get s k ≡ Some p
+        → slice_get (effect sh e s) k ≡ Some q
+        → Turns (thaws sh e ≡ Some k) (head_of (wears p)) (head_of (wears q)) };
+
+    // One that turns no word leaves it for every part.
+    ghost still: { (sh : Self.Shape) (e : Self.Event) (s : List Self.Part) (k : ℕ)
+        (p q : Self.Part) → sound sh s → stands sh e s → fits sh e s → turning e ≡ false
+        → slice_get s k ≡ Some p → slice_get (effect sh e s) k ≡ Some q
+        → head_of (wears q) ≡ head_of (wears p) };
+
+    // What a reply teaches holds after its event.
     ghost learns: { (sh : Self.Shape) (e : Self.Event) (f : Self.Fact) (s : List Self.Part)
         → sound sh s → stands sh e s → fits sh e s → teaches sh e (reply sh e s) f
         → fact sh f (effect sh e s) };

@@ -14,6 +14,12 @@ pub struct Entry<E> {
     pub event: E,
 }
 
+/// What an enter found: a part, and the number that stood in its word.
+pub struct Found {
+    pub part: u64,
+    pub word: u64,
+}
+
 /// What a pass knows.
 pub struct View<E> {
     /// The numbers of the passes that were joined into it.
@@ -43,6 +49,21 @@ pub struct View<E> {
     pub sole: LinkedList<u64>,
     /// All parts that it ever took, in their order.
     pub taken: LinkedList<u64>,
+    /// Of each part in its hand: the head that the part's word has. Between an event and the steps
+    /// that let words follow, it may differ from what the part says.
+    pub worn: LinkedList<u64>,
+    /// One more than the number of the part whose word it found hot and without a reader, 0 where
+    /// there is none or it made an event or turned a word since.
+    pub drained: u64,
+    /// One more than the number of the part on which it has a claim, 0 where it has none.
+    pub claim: u64,
+    /// The head that the claim found.
+    pub claimed: u64,
+    /// One more than the number of the part whose word it entered and found not frozen, until it
+    /// takes the bump back; 0 where there is none.
+    pub bump: u64,
+    /// The parts whose words it entered, each with the number that it found there.
+    pub found: LinkedList<Found>,
     /// Whether it was joined into another.
     pub spent: bool,
 }

@@ -1,10 +1,10 @@
 -- What passes are after a split, a note and a join.
-use Rattle.std.proofs.Common.{◌≡◌, ℕ, zero, suc, ◌+◌, ◌^◌, ◌-◌, ◌<◌, ◌≤◌, List, [], ◌∷◌, ◌++◌, Option, None, Some, length, drop, take, refl, sym, ap, subst, ◌∙◌, length-append, length-drop, length-take, arith}
+use Rattle.std.proofs.Common.{◌≡◌, ℕ, zero, suc, ◌+◌, ◌^◌, ◌-◌, ◌<◌, ◌≤◌, ◌==◌, cond, List, [], ◌∷◌, ◌++◌, Option, None, Some, length, drop, take, refl, sym, ap, subst, ◌∙◌, length-append, length-drop, length-take, arith}
 use Rattle.std.specs.Prelude.{replicate, slice_get}
 use Rattle.atomic_table.specs.Seated.{TableId}
 use Rattle.atomic_table.specs.Table.{Me}
 use Rattle.atomic_table.specs.declared.shared.Seat.{Seat}
-use Rattle.hall_rule.specs.HallInvariant.{hands_of}
+use Rattle.hall_rule.specs.HallInvariant.{hands_of, worn_by}
 use Rattle.hall_rule.specs.Hands.{Holds}
 use Rattle.hall_rule.specs.Meaning.{Laws, Meaning}
 use Rattle.hall_rule.specs.Views.{Sees, dealt, greatest, joined_by, newcomer, without}
@@ -13,8 +13,12 @@ use Rattle.hall_rule.proofs.Logs.{stays}
 use Rattle.hall_rule.proofs.Numbers.{has_left, has_right, has_without, without_distinct, without_length}
 use Rattle.hall_rule.specs.Opening.{first_view}
 use Rattle.hall_rule.proofs.Opens.{above_to, below_to, sessions_to-distinct, sessions_to-length, zeros}
-use Rattle.hall_rule.proofs.Splits.{greatest_there}
-use Rattle.hall_steps.specs.Hall.{EachHand, IsNew, IsPass, IsSameSeat, Joined, Knows, first_of, spares_of}
+use Rattle.hall_rule.proofs.Divided.{greatest_there}
+use Rattle.hall_steps.specs.Hall.{EachHand, IsNew, IsPass, IsSameSeat, Joined, Knows, Settled, first_of, spares_of}
+
+-- who has neither a claim nor a bump is no reader
+pub none_read : (c d : ℕ) → c ≡ 0 → d ≡ 0 → cond {A = ℕ} (c == 0) 0 1 + cond {A = ℕ} (d == 0) 0 1 ≡ 0
+none_read c d a b = ap (λ x. cond {A = ℕ} (x == 0) 0 1 + cond {A = ℕ} (d == 0) 0 1) a ∙ ap (λ x. cond {A = ℕ} (0 == 0) 0 1 + cond {A = ℕ} (x == 0) 0 1) b
 
 -- a number many times is a list so long
 pub replicate-length : (n x : ℕ) → length (replicate n x) ≡ n
@@ -108,9 +112,18 @@ empty_all [] a b = tt
 empty_all (h ∷ hs) a b = (a, b)
 
 module _ {P E T F : Type 0} (M : Meaning P E T F) where
+  -- what is known of words is known of the same heads
+  settled_here : (v : View E) (me : Me (Option P) (View E)) (hand hand' : List (Option P)) → me.0 ≡ v → hand' ≡ hand → Settled M 0 (v, []) hand → Settled M 0 me hand'
+  settled_here v me hand hand' b c settled =
+      subst (λ (h : List (Option P)). Settled M 0 me h) (sym c) (record {
+        worn = λ k p ne at. ap (λ (x : View E). worn_by x k) b ∙ settled.worn k p ne at;
+        hot = λ k p is at. absurd (omega (arith, is));
+        drained = ap (λ (x : View E). x.drained) b ∙ settled.drained;
+      })
+
   -- a new pass that has seen the log
-  pub new_knows : (id : ℕ) (v : View E) (rs : List ℕ) (n : ℕ) (me : Me (Option P) (View E)) (hand : List (Option P)) → length v.stages ≡ length M.start → Empty hand → Sees M id (newcomer v rs) n me → Knows M id me hand × IsNew M v me.0 rs
-  new_knows id v rs n me hand stages empty sees =
+  pub new_knows : (id : ℕ) (v : View E) (rs : List ℕ) (n : ℕ) (me : Me (Option P) (View E)) (hand : List (Option P)) → length v.stages ≡ length M.start → length v.worn ≡ length M.start → Empty hand → Sees M id (newcomer v rs) n me → Knows M id me hand × IsNew M v me.0 rs × Settled M 0 me hand
+  new_knows id v rs n me hand stages wide empty sees =
       let log = sees.0 in
       let l = sees.1 in
       let w : View E = record (newcomer v rs) { log = log } in
@@ -135,6 +148,10 @@ module _ {P E T F : Type 0} (M : Meaning P E T F) where
         budget = l.budget;
         limit = l.limit;
         tied = l.tied;
+        wide = replicate-length (length v.worn) 0 ∙ wide;
+        no_bump = refl;
+        claims = omega arith;
+        imaged = λ k p is. absurd (omega (arith, is));
       } in (
         subst (λ (x : Me (Option P) (View E)). Knows M id x hand) (sym at) knows,
         subst (λ (x : Me (Option P) (View E)). IsNew M v x.0 rs) (sym at) (record {
@@ -143,9 +160,11 @@ module _ {P E T F : Type 0} (M : Meaning P E T F) where
           hands = refl;
           sole = refl;
           taken = refl;
+          free = refl;
           goes_on = l.goes_on;
           stays = record { goes_on = l.goes_on; spared = l.spared; transactions = l.transactions; facts = l.facts };
         }),
+        record { worn = λ k p ne e. absurd (empty k (p, e)); hot = λ k p is e. absurd (empty k (p, e)); drained = ap (λ (x : Me (Option P) (View E)). x.0.drained) at },
       )
 
   -- the pass that was split
@@ -180,11 +199,15 @@ module _ {P E T F : Type 0} (M : Meaning P E T F) where
           named = knows.tied.named;
           alone = λ q is h. knows.tied.alone q is (has_without (greatest v.sessions) q v.sessions h);
         };
+        wide = knows.wide;
+        no_bump = knows.no_bump;
+        claims = knows.claims;
+        imaged = knows.imaged;
       } in
       let at_id : Knows M t.id (dealt v, s.me.1) (first_of hands) = subst (λ (i : ℕ). Knows M i (dealt v, s.me.1) (first_of hands)) (sym st.1) kept in
       let at_me : Knows M t.id t.me (first_of hands) = subst (λ (x : Me (Option P) (View E)). Knows M t.id x (first_of hands)) (sym after') at_id in (
         record {
-          of = (st.0 ∙ pass.of.0, subst (Knows M t.id t.me) (sym first) at_me);
+          of = (st.0 ∙ pass.of.0, subst (Knows M t.id t.me) (sym first) at_me, settled_here (dealt v) t.me (first_of hands) (first_of hands') (ap (λ (m : Me (Option P) (View E)). m.0) after') first (record { worn = pass.of.2.worn; hot = pass.of.2.hot; drained = pass.of.2.drained }));
           count =
               let n = without_length (greatest v.sessions) v.sessions (greatest_there v.sessions (omega (arith, two))) in
               let a : length hands' ≡ length (take (length hands - 1) hands) = ap length is in
@@ -209,9 +232,9 @@ module _ {P E T F : Type 0} (M : Meaning P E T F) where
       let empties : EachHand Empty hands' = subst (EachHand Empty) (sym is) (spares_drop Empty (length hands - 1) hands (omega (arith, c, two)) pass.spares) in
       let none' : Empty (first_of hands') = each_first Empty hands' empties nothing in
       let sees' : Sees M u.id (newcomer v (greatest v.sessions ∷ [])) n u.me = subst (λ (i : ℕ). Sees M i (newcomer v (greatest v.sessions ∷ [])) n u.me) (sym fu.1) (subst (λ (x : Me (Option P) (View E)). Sees M f.id x.0 n u.me) made sees) in
-      let r = new_knows u.id v (greatest v.sessions ∷ []) n u.me (first_of hands') pass.of.1.stages none' sees' in (
+      let r = new_knows u.id v (greatest v.sessions ∷ []) n u.me (first_of hands') pass.of.1.stages pass.of.1.wide none' sees' in (
         record {
-          of = (fu.0 ∙ table, r.0);
+          of = (fu.0 ∙ table, r.0, r.2);
           count =
               let a : length hands' ≡ length (drop (length hands - 1) hands) = ap length is in
               let b = length-drop (length hands - 1) hands in
@@ -260,11 +283,23 @@ module _ {P E T F : Type 0} (M : Meaning P E T F) where
         budget = l.budget;
         limit = l.limit;
         tied = l.tied;
+        wide = knows.wide;
+        no_bump = knows.no_bump;
+        claims = knows.claims;
+        imaged = l.imaged;
       } in
       let at_id : Knows M t.id (w, []) (first_of (hands ++ theirs)) = subst (λ (i : ℕ). Knows M i (w, []) (first_of (hands ++ theirs))) (sym (ft.1 ∙ sf.1)) know in
       let at_me : Knows M t.id t.me (first_of (hands ++ theirs)) = subst (λ (y : Me (Option P) (View E)). Knows M t.id y (first_of (hands ++ theirs))) (sym at) at_id in (
         record {
-          of = (ft.0 ∙ (sf.0 ∙ pass.of.0), subst (λ y. Knows M t.id t.me (first_of y)) (sym is) at_me);
+          of = (
+            ft.0 ∙ (sf.0 ∙ pass.of.0),
+            subst (λ y. Knows M t.id t.me (first_of y)) (sym is) at_me,
+            settled_here w t.me (first_of (hands ++ theirs)) (first_of hands') (ap (λ (m : Me (Option P) (View E)). m.0) at) (ap first_of is) (record {
+              worn = λ k p ne found. pass.of.2.worn k p ne (same_first hands theirs k p (held_before hands theirs empty k (p, found)) found);
+              hot = λ k p e found. absurd (omega (arith, e));
+              drained = pass.of.2.drained;
+            }),
+          );
           count =
               let a : length hands' ≡ length hands + length theirs = ap length is ∙ length-append hands theirs in
               let b : length t.me.0.sessions ≡ length v.sessions + length u.sessions = ap (λ (y : Me (Option P) (View E)). length y.0.sessions) at ∙ length-append v.sessions u.sessions in
@@ -284,6 +319,7 @@ module _ {P E T F : Type 0} (M : Meaning P E T F) where
           stood = stays M laws v.sessions v.log log l.begins l.before l.lawful (λ q h. l.stood q h (has_left q v.sessions u.sessions h));
           came = stays M laws u.sessions u.log log l.begins l.heard l.lawful (λ q h. l.came q h (has_right q v.sessions u.sessions h));
           taken = refl;
+          reads = (refl, refl);
         }),
         (λ k h. subst (λ y. Holds (first_of y) k) (sym is) (held_after hands theirs k h)),
       )
@@ -314,9 +350,13 @@ module _ {P E T F : Type 0} (M : Meaning P E T F) where
         budget = omega (arith, n);
         limit = limit;
         tied = record { within = λ q h. (above_to M.passes q h, below_to M.passes q h); named = tt; alone = λ q is h. tt };
+        wide = replicate-length (length M.start) 0;
+        no_bump = refl;
+        claims = omega arith;
+        imaged = λ k p is. absurd (omega (arith, is));
       } in (
         record {
-          of = (table, subst (λ (x : Me (Option P) (View E)). Knows M seat.id x (first_of hands)) (sym me) knows);
+          of = (table, subst (λ (x : Me (Option P) (View E)). Knows M seat.id x (first_of hands)) (sym me) knows, record { worn = λ k p ne e. absurd (none' k (p, e)); hot = λ k p is e. absurd (none' k (p, e)); drained = ap (λ (x : Me (Option P) (View E)). x.0.drained) me });
           count = count ∙ (sym n ∙ ap (λ (x : Me (Option P) (View E)). length x.0.sessions) (sym me));
           places = places;
           spares = each_spare Empty hands empties;

@@ -1,16 +1,17 @@
 -- What a pass knows after a take, a give and an event.
-use Rattle.std.proofs.Common.{◌≡◌, ◌≢◌, ℕ, zero, suc, ◌+◌, ◌*◌, ◌^◌, ◌<◌, ◌≤◌, Bool, true, false, cond, List, [], ◌∷◌, ◌++◌, Option, None, Some, length, set, refl, sym, ap, subst, ◌∙◌, ◌⊎◌, inl, inr, ⊎_elim, length-set, length-append, arith}
+use Rattle.std.proofs.Common.{◌≡◌, ◌≢◌, ℕ, zero, suc, ◌+◌, ◌*◌, ◌%◌, ◌^◌, ◌<◌, ◌≤◌, Bool, true, false, cond, List, [], ◌∷◌, ◌++◌, Option, None, Some, length, set, get_or-set_same, get_or-set_other, refl, sym, ap, subst, ◌∙◌, ◌⊎◌, inl, inr, ⊎_elim, length-set, length-append, arith}
 use Rattle.std.specs.Prelude.{MatchBool, slice_get, slice_index}
 use Rattle.std.proofs.lemmas.Option.{slice_get_within}
 use Rattle.atomic_table.specs.Table.{Me}
 use Rattle.hall_rule.specs.EventLog.{after, has, own, replay}
-use Rattle.hall_rule.specs.HallInvariant.{hands_of, stage}
+use Rattle.hall_rule.specs.HallInvariant.{hands_of, stage, worn_by}
 use Rattle.hall_rule.specs.Hands.{Agrees, Holds, SameRoom}
 use Rattle.hall_rule.specs.Meaning.{Laws, Meaning, meaning}
 use Rattle.hall_rule.specs.declared.parts.Parts.{Ghosts}
-use Rattle.hall_rule.specs.Views.{Adds, Learned, added, entry_of, given, homed, loaded, staged}
+use Rattle.hall_rule.specs.Views.{Adds, KeepsClaim, Learned, added, emptied, entry_of, given, homed, loaded, staged, turned}
 use Rattle.hall_rule.specs.declared.view.Entry.{Entry}
 use Rattle.hall_rule.specs.declared.view.View.{View}
+use Rattle.hall_rule.proofs.EventWords.{there_is}
 use Rattle.hall_rule.proofs.Events.{Asks, stays_lawful}
 use Rattle.hall_rule.proofs.Latches.{stage_else, stage_here}
 use Rattle.hall_rule.proofs.Lists.{by_cases, get_set_else, get_set_here}
@@ -18,7 +19,9 @@ use Rattle.hall_rule.proofs.Named.{least_there, named_append, only_append, only_
 use Rattle.hall_rule.proofs.Logs.{after_is, has_head, lawful_append, own_all, own_append, replay_append}
 use Rattle.atomic_table.specs.Seated.{TableId}
 use Rattle.atomic_table.specs.declared.shared.Seat.{Seat}
-use Rattle.hall_steps.specs.Hall.{EndsWith, Extends, IsOf, IsSameSeat, Knows, Looks, LooksOn}
+use Rattle.hall_rule.specs.Heads.{IsFrozen, IsHot, MayTurn, TurnsOn}
+use Rattle.hall_rule.specs.declared.view.Found.{Found}
+use Rattle.hall_steps.specs.Hall.{EndsWith, Extends, IsOf, IsSameSeat, Knows, Looks, IsOfAt, LooksOn, Settled, thawed_by}
 
 module _ {A : Type 0} where
   -- what two `Some` hold is the same
@@ -70,15 +73,16 @@ module _ {P E T F : Type 0} (M : Meaning P E T F) where
     budget = l.budget;
     limit = l.limit;
     tied = l.tied;
+    imaged = l.imaged;
   }
 
   -- a part came into the hand
   pub took : (id : ℕ) (v : View E) (hand : List (Option P)) (k : ℕ) (p : P) (log : List (Entry E)) → Knows M id (v, []) hand → k < length M.start → slice_get hand k ≡ Some None
-      → Learned M id (staged v k 1) log → slice_get (replay M log) k ≡ Some p → Knows M id (homed (loaded (staged v k 1) k log), []) (set hand k (Some p)) × LooksOn M id v (homed (loaded (staged v k 1) k log))
+      → Learned M id (staged v k 1) log → slice_get (replay M log) k ≡ Some p → Knows M id (homed (loaded (staged v k 1) k (M.head p) log), []) (set hand k (Some p)) × LooksOn M id v (homed (loaded (staged v k 1) k (M.head p) log))
   took id v hand k p log knows lt none' l value =
       let away : stage v k ≡ 0 = knows.away k (λ h. not_none h.0 ⊥ (some_is (Some h.0) None (sym h.1 ∙ none'))) in
       let new = less id v k log away l in
-      let w : View E = homed (loaded (staged v k 1) k log) in
+      let w : View E = homed (loaded (staged v k 1) k (M.head p) log) in
       let n = knows.stages in
       let room1 : k < length v.stages = omega (arith, n, lt) in
       let room2 : k < length (set v.stages k 1) = let m : length (set v.stages k 1) ≡ length v.stages = length-set v.stages k 1 in omega (arith, m, room1) in
@@ -114,8 +118,12 @@ module _ {P E T F : Type 0} (M : Meaning P E T F) where
           budget = l.budget;
           limit = l.limit;
           tied = l.tied;
+          wide = length-set v.worn k (M.head p) ∙ knows.wide;
+          no_bump = knows.no_bump;
+          claims = knows.claims;
+          imaged = l.imaged;
         },
-        record { joined = refl; sessions = refl; mine = refl; sole = refl; learned = new },
+        record { joined = refl; sessions = refl; mine = refl; sole = refl; reads = (refl, refl); learned = new },
       )
 
   -- a part left the hand
@@ -153,6 +161,10 @@ module _ {P E T F : Type 0} (M : Meaning P E T F) where
         budget = knows.budget;
         limit = knows.limit;
         tied = knows.tied;
+        wide = knows.wide;
+        no_bump = knows.no_bump;
+        claims = knows.claims;
+        imaged = knows.imaged;
       }
     where
       staged_below : (l : List ℕ) (i : ℕ) → slice_index l i ≡ 2 → i < length l
@@ -164,8 +176,8 @@ module _ {P E T F : Type 0} (M : Meaning P E T F) where
   pub made : (laws : Laws M) (id : ℕ) (v : View E) (hand hand' : List (Option P)) (e : Entry E) (before : List (Entry E)) → Knows M id (v, []) hand → Asks M laws hand v e.event → (e.refused ≡ true → M.takes_memory e.event ≡ true) → length v.mine < 2 ^ 56 * hands_of v → e.pass ≡ id → has e.session v.sessions ≡ true
       → SameRoom hand hand'
       → ((s : List P) → M.sound s → Agrees hand s → M.stands e.event s → M.fits e.event s → MatchBool e.refused (hand' ≡ hand) (Agrees hand' (M.effect e.event s)))
-      → Learned M id v before → Knows M id (added v before e, []) hand' × EndsWith M id v before e (added v before e)
-  made laws id v hand hand' e before knows asks may few pass under same meets new =
+      → Learned M id v before → KeepsClaim M v (before ++ e ∷ []) → Knows M id (added v before e, []) hand' × EndsWith M id v before e (added v before e)
+  made laws id v hand hand' e before knows asks may few pass under same meets new claim =
       let still = stays_lawful M laws id hand v e.event before knows.sound knows.room asks knows.held new in
       let t : List P = replay M before in
       let m = meets t new.sound still.0 still.1 still.2 in
@@ -195,8 +207,12 @@ module _ {P E T F : Type 0} (M : Meaning P E T F) where
             named = named_append M.passes before (e ∷ []) new.tied.named ((new.tied.within e.session under).0, (new.tied.within e.session under).1, tt);
             alone = λ q is h. only_append q (id ∷ v.joined) before (e ∷ []) (new.tied.alone q is h) (only_mine q (id ∷ v.joined) id (e ∷ []) (has_head id v.joined) (pass, tt));
           };
+          wide = knows.wide;
+          no_bump = knows.no_bump;
+          claims = knows.claims;
+          imaged = claim;
         },
-        record { joined = refl; sessions = refl; learned = new; log = refl; mine = refl; sole = refl; taken = refl },
+        record { joined = refl; sessions = refl; learned = new; log = refl; mine = refl; sole = refl; taken = refl; reads = (refl, refl) },
       )
     where
       matched : (b : Bool) (hand hand' : List (Option P)) (s s' : List P) → MatchBool b (hand' ≡ hand) (Agrees hand' s') → Agrees hand s → (k : ℕ) (p : P) → slice_get hand' k ≡ Some (Some p) → slice_get (cond b s s') k ≡ Some p
@@ -212,39 +228,252 @@ module _ {P E T F : Type 0} (M : Meaning P E T F) where
   known_at id id' me me' hand hand' a b c knows =
       subst (λ (i : ℕ). Knows M i me' hand') (sym a) (subst (λ (m : Me (Option P) (View E)). Knows M id m hand') (sym b) (subst (λ (h : List (Option P)). Knows M id me h) (sym c) knows))
 
+  settled_at : (d : ℕ) (me me' : Me (Option P) (View E)) (hand hand' : List (Option P)) → me'.0 ≡ me.0 → hand' ≡ hand → Settled M d me hand → Settled M d me' hand'
+  settled_at d me me' hand hand' b c settled =
+      subst (λ (h : List (Option P)). Settled M d me' h) (sym c) (record {
+        worn = λ k p ne at. ap (λ (x : View E). worn_by x k) b ∙ settled.worn k p ne at;
+        hot = λ k p is at. let h = settled.hot k p is at in (subst IsHot (sym (ap (λ (x : View E). worn_by x k) b)) h.0, ap (λ (x : View E). worn_by x k + 3 * 2 ^ 30) b ∙ h.1);
+        drained = ap (λ (x : View E). x.drained) b ∙ settled.drained;
+      })
+
+  -- a part came into the hand, whose word follows it
+  took_settled : (v : View E) (hand : List (Option P)) (k : ℕ) (p : P) (log : List (Entry E)) → Settled M 0 (v, []) hand → length v.worn ≡ length M.start → k < length M.start → slice_get hand k ≡ Some None
+      → Settled M 0 (homed (loaded (staged v k 1) k (M.head p) log), []) (set hand k (Some p))
+  took_settled v hand k p log settled wide lt none' =
+      let w : View E = homed (loaded (staged v k 1) k (M.head p) log) in
+      let in_hand : k < length hand = slice_get_within hand k None none' in
+      record {
+        worn = λ i q ne e. by_cases i k (worn_by w i ≡ M.head q)
+            (λ same.
+            let f : slice_get (set hand k (Some p)) k ≡ Some (Some q) = subst (λ (x : ℕ). slice_get (set hand k (Some p)) x ≡ Some (Some q)) same e in
+            let r : p ≡ q = some_is p q (some_is (Some p) (Some q) (sym (get_set_here hand k (Some p) in_hand) ∙ f)) in
+            ap (worn_by w) same ∙ (get_or-set_same v.worn k (M.head p) 0 (omega (arith, wide, lt)) ∙ ap M.head r))
+            (λ else. get_or-set_other v.worn k i (M.head p) 0 else ∙ settled.worn i q ne (sym (get_set_else hand k i (Some p) else) ∙ e));
+        hot = λ i q is e. absurd (omega (arith, is));
+        drained = settled.drained;
+      }
+
+  -- a part left the hand
+  gave_settled : (v : View E) (hand : List (Option P)) (k : ℕ) (p : P) → Settled M 0 (v, []) hand → slice_get hand k ≡ Some (Some p) → Settled M 0 (given v k, []) (set hand k None)
+  gave_settled v hand k p settled there =
+      let in_hand : k < length hand = slice_get_within hand k (Some p) there in
+      record {
+        worn = λ i q ne e. by_cases i k (worn_by v i ≡ M.head q)
+            (λ same.
+            let f : slice_get (set hand k None) k ≡ Some (Some q) = subst (λ (x : ℕ). slice_get (set hand k None) x ≡ Some (Some q)) same e in
+            not_none q (worn_by v i ≡ M.head q) (some_is (Some q) None (sym f ∙ get_set_here hand k None in_hand)))
+            (λ else. settled.worn i q ne (sym (get_set_else hand k i None else) ∙ e));
+        hot = λ i q is e. absurd (omega (arith, is));
+        drained = settled.drained;
+      }
+
   -- the same of seats: s at first, l with the latch, t at the end
   pub took_at : (z : TableId) (s l t : Seat (Option P) (View E)) (hand hand' : List (Option P)) (k : ℕ) (p : P) (log : List (Entry E)) → IsOf M z s hand → k < length M.start → slice_get hand k ≡ Some None
-      → IsSameSeat s l → IsSameSeat l t → l.me ≡ (staged s.me.0 k 1, []) → Learned M l.id l.me.0 log → slice_get (replay M log) k ≡ Some p → t.me ≡ (homed (loaded l.me.0 k log), [])
+      → IsSameSeat s l → IsSameSeat l t → l.me ≡ (staged s.me.0 k 1, []) → Learned M l.id l.me.0 log → slice_get (replay M log) k ≡ Some p → t.me ≡ (homed (loaded l.me.0 k (M.head p) log), [])
       → hand' ≡ set hand k (Some p) → IsOf M z t hand' × Looks M s t
   took_at z s l t hand hand' k p log pass lt none' sl lt' latched learned value after' hands =
       let v = s.me.0 in
       let first : l.me.0 ≡ staged v k 1 = ap (λ (m : Me (Option P) (View E)). m.0) latched in
       let new : Learned M s.id (staged v k 1) log = subst (λ (x : View E). Learned M s.id x log) first (subst (λ (i : ℕ). Learned M i l.me.0 log) sl.1 learned) in
-      let end' : t.me ≡ (homed (loaded (staged v k 1) k log), []) = after' ∙ ap (λ (x : View E). let y : Me (Option P) (View E) = (homed (loaded x k log), []) in y) first in
+      let end' : t.me ≡ (homed (loaded (staged v k 1) k (M.head p) log), []) = after' ∙ ap (λ (x : View E). let y : Me (Option P) (View E) = (homed (loaded x k (M.head p) log), []) in y) first in
       let r = took s.id v hand k p log (at_rest s.id s.me hand pass.1) lt none' new value in (
-        (lt'.0 ∙ (sl.0 ∙ pass.0), known_at s.id t.id (homed (loaded (staged v k 1) k log), []) t.me (set hand k (Some p)) hand' (lt'.1 ∙ sl.1) end' hands r.0),
+        (
+          lt'.0 ∙ (sl.0 ∙ pass.0),
+          known_at s.id t.id (homed (loaded (staged v k 1) k (M.head p) log), []) t.me (set hand k (Some p)) hand' (lt'.1 ∙ sl.1) end' hands r.0,
+          settled_at 0 (homed (loaded (staged v k 1) k (M.head p) log), []) t.me (set hand k (Some p)) hand' (ap (λ (m : Me (Option P) (View E)). m.0) end') hands (took_settled v hand k p log (settled_at 0 s.me (v, []) hand hand refl refl pass.2) pass.1.wide lt none'),
+        ),
         ((lt'.0 ∙ sl.0, lt'.1 ∙ sl.1), subst (λ (x : View E). LooksOn M s.id v x) (sym (ap (λ (m : Me (Option P) (View E)). m.0) end')) r.1),
       )
 
   -- and what it ever took
-  pub taken_at : (s l t : Seat (Option P) (View E)) (k : ℕ) (log : List (Entry E)) → l.me ≡ (staged s.me.0 k 1, []) → t.me ≡ (homed (loaded l.me.0 k log), []) → t.me.0.taken ≡ s.me.0.taken ++ k ∷ []
-  taken_at s l t k log latched after' = ap (λ (m : Me (Option P) (View E)). m.0.taken) after' ∙ ap (λ (m : Me (Option P) (View E)). m.0.taken) latched
+  pub taken_at : (s l t : Seat (Option P) (View E)) (k head : ℕ) (log : List (Entry E)) → l.me ≡ (staged s.me.0 k 1, []) → t.me ≡ (homed (loaded l.me.0 k head log), []) → t.me.0.taken ≡ s.me.0.taken ++ k ∷ []
+  taken_at s l t k head log latched after' = ap (λ (m : Me (Option P) (View E)). m.0.taken) after' ∙ ap (λ (m : Me (Option P) (View E)). m.0.taken) latched
 
   -- What a pass knows after a part was given back.
   pub gave_at : (z : TableId) (s t : Seat (Option P) (View E)) (hand hand' : List (Option P)) (k : ℕ) (p : P) → IsOf M z s hand → slice_get hand k ≡ Some (Some p)
       → IsSameSeat s t → t.me ≡ (given s.me.0 k, []) → hand' ≡ set hand k None → IsOf M z t hand'
-  gave_at z s t hand hand' k p pass there st after' hands =
-      (st.0 ∙ pass.0, known_at s.id t.id (given s.me.0 k, []) t.me (set hand k None) hand' st.1 after' hands (gave s.id s.me.0 hand k p (at_rest s.id s.me hand pass.1) there))
+  gave_at z s t hand hand' k p pass there st after' hands = (
+    st.0 ∙ pass.0,
+    known_at s.id t.id (given s.me.0 k, []) t.me (set hand k None) hand' st.1 after' hands (gave s.id s.me.0 hand k p (at_rest s.id s.me hand pass.1) there),
+    settled_at 0 (given s.me.0 k, []) t.me (set hand k None) hand' (ap (λ (m : Me (Option P) (View E)). m.0) after') hands (gave_settled s.me.0 hand k p (settled_at 0 s.me (s.me.0, []) hand hand refl refl pass.2) there),
+  )
 
   -- What it knows after an event of its own.
-  pub made_at : (laws : Laws M) (z : TableId) (s t : Seat (Option P) (View E)) (hand hand' : List (Option P)) (e : Entry E) (before : List (Entry E)) → IsOf M z s hand → Asks M laws hand s.me.0 e.event → (e.refused ≡ true → M.takes_memory e.event ≡ true) → length s.me.0.mine < 2 ^ 56 * hands_of s.me.0 → e.pass ≡ s.id → has e.session s.me.0.sessions ≡ true
+  pub made_at : (laws : Laws M) (z : TableId) (s t : Seat (Option P) (View E)) (hand hand' : List (Option P)) (e : Entry E) (before : List (Entry E)) → (s.table_id ≡ z) × Knows M s.id s.me hand → Asks M laws hand s.me.0 e.event → (e.refused ≡ true → M.takes_memory e.event ≡ true) → length s.me.0.mine < 2 ^ 56 * hands_of s.me.0 → e.pass ≡ s.id → has e.session s.me.0.sessions ≡ true
       → SameRoom hand hand'
       → ((x : List P) → M.sound x → Agrees hand x → M.stands e.event x → M.fits e.event x → MatchBool e.refused (hand' ≡ hand) (Agrees hand' (M.effect e.event x)))
-      → Learned M s.id s.me.0 before → IsSameSeat s t → t.me ≡ (added s.me.0 before e, []) → IsOf M z t hand' × Extends M s before e t
-  made_at laws z s t hand hand' e before pass asks may few by under same meets new st after' =
-      let r = made laws s.id s.me.0 hand hand' e before (at_rest s.id s.me hand pass.1) asks may few by under same meets new in (
+      → Learned M s.id s.me.0 before → KeepsClaim M s.me.0 (before ++ e ∷ []) → IsSameSeat s t → t.me ≡ (added s.me.0 before e, []) → ((t.table_id ≡ z) × Knows M t.id t.me hand') × Extends M s before e t
+  made_at laws z s t hand hand' e before pass asks may few by under same meets new claim st after' =
+      let r = made laws s.id s.me.0 hand hand' e before (at_rest s.id s.me hand pass.1) asks may few by under same meets new claim in (
         (st.0 ∙ pass.0, known_at s.id t.id (added s.me.0 before e, []) t.me hand' hand' st.1 after' refl r.0),
         (st, subst (λ (x : View E). EndsWith M s.id s.me.0 before e x) (sym (ap (λ (m : Me (Option P) (View E)). m.0) after')) r.1),
+      )
+
+-- a part that is named as the one that is thawed is thawed
+pub thawed_is : (o : Option ℕ) (k : ℕ) → suc k ≡ thawed_by o → o ≡ Some k
+thawed_is None k e = absurd (omega (arith, e))
+thawed_is (Some j) k e = ap Some (let x : j ≡ k = omega (arith, e) in x)
+
+module _ {P E T F : Type 0} (M : Meaning P E T F) (laws : Laws M) where
+  -- What an event makes of the parts in the hand, their words may be turned to.
+  pub heads_turn : (v : View E) (hand hand' : List (Option P)) (e : Entry E) (t : List P) → Settled M (thawed_by (M.thaws e.event)) (v, []) hand → SameRoom hand hand' → M.sound t → Agrees hand t → M.stands e.event t → M.fits e.event t
+      → MatchBool e.refused (hand' ≡ hand) (Agrees hand' (M.effect e.event t)) → (k : ℕ) (p : P) → slice_get hand' k ≡ Some (Some p) → MayTurn (worn_by v k) (M.head p)
+  heads_turn v hand hand' e t settled same ok agrees stands fits meets k p at =
+      let was = same_holds hand hand' same k (p, at) in
+      let d : ℕ = thawed_by (M.thaws e.event) in
+      go e.refused meets was d refl
+    where
+      stays : (q : P) → slice_get hand k ≡ Some (Some q) → p ≡ q → MayTurn (worn_by v k) (M.head p)
+      stays q there is = by_cases (suc k) (thawed_by (M.thaws e.event)) (MayTurn (worn_by v k) (M.head p))
+          (λ thaws. let h = settled.hot k q thaws there in inr (inr (h.0, ap M.head is ∙ sym h.1)))
+          (λ ne. inl (ap M.head is ∙ sym (settled.worn k q ne there)))
+
+      go : (b : Bool) → MatchBool b (hand' ≡ hand) (Agrees hand' (M.effect e.event t)) → Holds hand k → (d : ℕ) → d ≡ thawed_by (M.thaws e.event) → MayTurn (worn_by v k) (M.head p)
+      go true m was d is = stays p (ap (λ h. slice_get h k) (sym m) ∙ at) refl
+      go false m was d is = ⊎_elim
+          (λ thaw.
+          let h = settled.hot k was.0 (sym (ap thawed_by thaw.0)) was.1 in
+          let a = h.1 in
+          let c = thaw.2 in
+          inl (omega (arith, a, c)))
+          (λ other.
+          let w = settled.worn k was.0 (λ x. other.0 (thawed_is (M.thaws e.event) k x)) was.1 in
+          ⊎_elim (λ x. inl (x ∙ sym w)) (λ x. inr (inl (subst (λ h. TurnsOn h (M.head p)) (sym w) x))) other.1)
+          (laws.turns e.event t k was.0 p ok stands fits (agrees.1 k was.0 was.1) (m.1 k p at))
+
+  -- An event that turns no word leaves the heads of the parts in the hand, and thaws none.
+  pub heads_stay : (v : View E) (hand hand' : List (Option P)) (e : Entry E) (t : List P) → Settled M (thawed_by (M.thaws e.event)) (v, []) hand → SameRoom hand hand' → M.sound t → Agrees hand t → M.stands e.event t → M.fits e.event t → M.turning e.event ≡ false
+      → MatchBool e.refused (hand' ≡ hand) (Agrees hand' (M.effect e.event t)) → (k : ℕ) (p : P) → slice_get hand' k ≡ Some (Some p) → worn_by v k ≡ M.head p
+  heads_stay v hand hand' e t settled same ok agrees stands fits turns meets k p at =
+      let was = same_holds hand hand' same k (p, at) in
+      let q = was.0 in
+      let there : slice_get t k ≡ Some q = agrees.1 k q was.1 in
+      let lt = slice_get_within t k q there in
+      let room = laws.room e.event t ok in
+      let later = there_is (M.effect e.event t) k (omega (arith, lt, room)) in
+      let stays : (x : P) → slice_get (M.effect e.event t) k ≡ Some x → M.head x ≡ M.head q = λ (x : P) is. laws.still e.event t k q x ok stands fits turns there is in
+      let none' : suc k ≢ thawed_by (M.thaws e.event) = λ is. ⊎_elim
+      (λ thaw. let a = thaw.1.0 in let b = thaw.2 in let c = stays later.0 later.1 in omega (arith, a, b, c))
+      (λ other. other.0 (thawed_is (M.thaws e.event) k is))
+      (laws.turns e.event t k q later.0 ok stands fits there later.1) in
+      let worn : worn_by v k ≡ M.head q = settled.worn k q none' was.1 in
+      worn ∙ go e.refused meets q was.1 stays
+    where
+      go : (b : Bool) → MatchBool b (hand' ≡ hand) (Agrees hand' (M.effect e.event t)) → (q : P) → slice_get hand k ≡ Some (Some q) → ((x : P) → slice_get (M.effect e.event t) k ≡ Some x → M.head x ≡ M.head q) → M.head q ≡ M.head p
+      go true m q there stays = ap M.head (some_is q p (some_is (Some q) (Some p) (sym there ∙ (ap (λ h. slice_get h k) (sym m) ∙ at))))
+      go false m q there stays = sym (stays p (m.1 k p at))
+
+  -- What is known of a log is known with other heads.
+  pub reworded : (id : ℕ) (v w : View E) (hand : List (Option P)) → w ≡ record v { worn = w.worn; drained = w.drained } → length w.worn ≡ length v.worn → Knows M id (v, []) hand → Knows M id (w, []) hand
+  reworded id v w hand same room k = subst (λ x. Knows M id (x, []) hand) (sym same) (record {
+    none_out = refl;
+    home = k.home;
+    live = k.live;
+    stages = k.stages;
+    begins = k.begins;
+    few_hands = k.few_hands;
+    sound = k.sound;
+    lawful = k.lawful;
+    mine = k.mine;
+    total = k.total;
+    distinct = k.distinct;
+    room = k.room;
+    agrees = k.agrees;
+    held = k.held;
+    away = k.away;
+    few = k.few;
+    budget = k.budget;
+    limit = k.limit;
+    tied = k.tied;
+    wide = room ∙ k.wide;
+    no_bump = k.no_bump;
+    claims = k.claims;
+    imaged = k.imaged;
+  })
+
+  -- A pass whose words all follow its parts is settled.
+  pub settled_pass : (z : TableId) (s t : Seat (Option P) (View E)) (hand : List (Option P)) → s.table_id ≡ z → Knows M s.id s.me hand → t.table_id ≡ s.table_id → t.id ≡ s.id → t.me.1 ≡ []
+      → t.me.0 ≡ record s.me.0 { worn = t.me.0.worn; drained = t.me.0.drained } → length t.me.0.worn ≡ length s.me.0.worn → t.me.0.drained ≡ 0
+      → ((k : ℕ) (p : P) → slice_get hand k ≡ Some (Some p) → worn_by t.me.0 k ≡ M.head p) → IsOf M z t hand
+  settled_pass z s t hand table knows table' id none' same room drained done =
+      let rest : Knows M s.id (t.me.0, []) hand = reworded s.id s.me.0 t.me.0 hand same room (at_rest M s.id s.me hand knows) in
+      let me : t.me ≡ (t.me.0, []) = λ i. (t.me.0, none' i) in (
+        table' ∙ table,
+        known_at M s.id t.id (t.me.0, []) t.me hand hand id me refl rest,
+        record { worn = λ k p ne at. done k p at; hot = λ k p is at. absurd (omega (arith, is)); drained = drained },
+      )
+
+  -- An event's place in the log is told with other heads.
+  pub extends_on : (s t u : Seat (Option P) (View E)) (before : List (Entry E)) (e : Entry E) → Extends M s before e t → IsSameSeat t u → u.me.0 ≡ record t.me.0 { worn = u.me.0.worn; drained = u.me.0.drained } → Extends M s before e u
+  extends_on s t u before e x tu same =
+      let y = x.1 in
+      ((tu.0 ∙ x.0.0, tu.1 ∙ x.0.1), subst (λ (w : View E). EndsWith M s.id s.me.0 before e w) (sym same) (record { joined = y.joined; sessions = y.sessions; learned = y.learned; log = y.log; mine = y.mine; sole = y.sole; taken = y.taken; reads = y.reads }))
+
+  -- What a reader knows of its hand stands while it enters and leaves.
+  pub read_of : (z : TableId) (s t : Seat (Option P) (View E)) (hand : List (Option P)) (claim claimed bump : ℕ) (found : List Found) → IsOf M z s hand → IsSameSeat s t → bump ≡ 0 → claim ≤ length M.start → ((k : ℕ) (p : P) → claim ≡ suc k → slice_get (replay M s.me.0.log) k ≡ Some p → M.head p ≡ claimed)
+      → t.me ≡ (record s.me.0 { claim = claim; claimed = claimed; bump = bump; found = found }, []) → IsOf M z t hand
+  read_of z s t hand claim claimed bump found pass st none' claims imaged after' =
+      let k = at_rest M s.id s.me hand pass.1 in
+      let w : View E = record s.me.0 { claim = claim; claimed = claimed; bump = bump; found = found } in (
+        st.0 ∙ pass.0,
+        known_at M s.id t.id (w, []) t.me hand hand st.1 after' refl (record {
+          none_out = refl;
+          home = k.home;
+          live = k.live;
+          stages = k.stages;
+          begins = k.begins;
+          few_hands = k.few_hands;
+          sound = k.sound;
+          lawful = k.lawful;
+          mine = k.mine;
+          total = k.total;
+          distinct = k.distinct;
+          room = k.room;
+          agrees = k.agrees;
+          held = k.held;
+          away = k.away;
+          few = k.few;
+          budget = k.budget;
+          limit = k.limit;
+          tied = k.tied;
+          wide = k.wide;
+          no_bump = none';
+          claims = claims;
+          imaged = imaged;
+        }),
+        settled_at M 0 (w, []) t.me hand hand (ap (λ (m : Me (Option P) (View E)). m.0) after') refl (record { worn = pass.2.worn; hot = pass.2.hot; drained = pass.2.drained }),
+      )
+
+  -- A pass whose hand has a frozen part that is drained is about to thaw it.
+  pub drained_of : (z : TableId) (s t : Seat (Option P) (View E)) (hand : List (Option P)) (k : ℕ) (p : P) → IsOf M z s hand → k < length M.start → slice_get hand k ≡ Some (Some p) → IsFrozen (M.head p) → IsSameSeat s t
+      → t.me ≡ (emptied (turned s.me.0 k (worn_by s.me.0 k % 2 ^ 30)) k, []) → IsOfAt M (suc k) z t hand
+  drained_of z s t hand k p pass lt there frozen st after' =
+      let v = s.me.0 in
+      let h : ℕ = worn_by v k % 2 ^ 30 in
+      let w : View E = emptied (turned v k h) k in
+      let known = pass.1 in
+      let follows : worn_by v k ≡ M.head p = pass.2.worn k p (λ e. absurd (omega (arith, e))) there in
+      let wide = known.wide in
+      let here : worn_by w k ≡ h = get_or-set_same v.worn k h 0 (omega (arith, wide, lt)) in
+      let settled : Settled M (suc k) (w, []) hand = record {
+        worn = λ i q ne at. get_or-set_other v.worn k i h 0 (λ e. ne (ap suc e)) ∙ pass.2.worn i q (λ e. absurd (omega (arith, e))) at;
+        hot = λ i q is at.
+            let same : i ≡ k = omega (arith, is) in
+            let one : p ≡ q = some_is p q (some_is (Some p) (Some q) (sym there ∙ subst (λ (x : ℕ). slice_get hand x ≡ Some (Some q)) same at)) in
+            let head : M.head p ≡ M.head q = ap M.head one in
+            let worn : worn_by w i ≡ h = ap (worn_by w) same ∙ here in
+            let low = frozen.0 in
+            let high = frozen.1 in
+            (omega (arith, worn), omega (arith, worn, head, follows, low, high));
+        drained = refl;
+      } in (
+        st.0 ∙ pass.0,
+        known_at M s.id t.id (w, []) t.me hand hand st.1 after' refl (reworded s.id v w hand refl (length-set v.worn k h) (at_rest M s.id s.me hand known)),
+        record {
+          worn = λ i q ne at. ap (λ (m : Me (Option P) (View E)). worn_by m.0 i) after' ∙ settled.worn i q ne at;
+          hot = λ i q is at. let x = settled.hot i q is at in (subst IsHot (sym (ap (λ (m : Me (Option P) (View E)). worn_by m.0 i) after')) x.0, ap (λ (m : Me (Option P) (View E)). worn_by m.0 i + 3 * 2 ^ 30) after' ∙ x.1);
+          drained = ap (λ (m : Me (Option P) (View E)). m.0.drained) after';
+        },
       )
 
 -- of two facts that hold where a test does, the first
@@ -276,8 +505,8 @@ module _ {C P E R S T F : Type 0} (t : Ghosts C P E R S T F) (core : C) (passes 
   Done sh = (before : List (Entry E)) × Extends M s before (entry_of s.id s.me.0 (t.refused reply) event) u × MatchBool (t.refused reply) (hand' ≡ hand) (reply ≡ t.reply sh event (replay M before)) × (new ≤ old + t.cost sh event (replay M before))
 
   -- An event that met its parts and costs what it may is done, and its pass knows of it.
-  pub finish : (sh : S) → sh ≡ t.shape_of core → IsOf M z s hand → Asks M laws hand s.me.0 event → (t.refused reply ≡ true → t.takes_memory event ≡ true) → length s.me.0.mine < 2 ^ 56 * hands_of s.me.0 → SameRoom hand hand' → Meets sh → Costs sh → (n : ℕ) → Adds M s.id s.me.0 (entry_of s.id s.me.0 (t.refused reply) event) n u.me → IsSameSeat s u
-      → IsOf M z u hand' × Done sh
+  pub finish : (sh : S) → sh ≡ t.shape_of core → (s.table_id ≡ z) × Knows M s.id s.me hand → Asks M laws hand s.me.0 event → (t.refused reply ≡ true → t.takes_memory event ≡ true) → length s.me.0.mine < 2 ^ 56 * hands_of s.me.0 → SameRoom hand hand' → Meets sh → Costs sh → (n : ℕ) → Adds M s.id s.me.0 (entry_of s.id s.me.0 (t.refused reply) event) n u.me → IsSameSeat s u
+      → ((u.table_id ≡ z) × Knows M u.id u.me hand') × Done sh
   finish sh is pass asks may few same meets costs n told st =
       let before : List (Entry E) = told.0 in
       let still = stays_lawful M laws s.id hand s.me.0 event before pass.1.sound pass.1.room asks pass.1.held told.1 in
@@ -288,7 +517,7 @@ module _ {C P E R S T F : Type 0} (t : Ghosts C P E R S T F) (core : C) (passes 
       let e : Entry E = entry_of s.id s.me.0 (t.refused reply) event in
       let end' : u.me ≡ (added s.me.0 before e, []) = λ i. (told.2 i, told.3 i) in
       let r = made_at M laws z s u hand hand' e before pass asks may few refl (least_there s.me.0.sessions (let f = few in omega (arith, f))) same
-      (λ y ok agrees stands fits. match_first (hand' ≡ hand) (Agrees hand' (t.effect (t.shape_of core) event y)) (reply ≡ t.reply (t.shape_of core) event y) (t.refused reply) (meets' y ok agrees stands fits)) told.1 st end' in (
+      (λ y ok agrees stands fits. match_first (hand' ≡ hand) (Agrees hand' (t.effect (t.shape_of core) event y)) (reply ≡ t.reply (t.shape_of core) event y) (t.refused reply) (meets' y ok agrees stands fits)) told.1 told.4 st end' in (
         r.0,
         subst Done (sym is) (before, r.1, match_second (hand' ≡ hand) (Agrees hand' (t.effect (t.shape_of core) event x)) (reply ≡ t.reply (t.shape_of core) event x) (t.refused reply) here, costs' x told.1.sound still.0 still.1 still.2),
       )

@@ -17,7 +17,7 @@ use Rattle.hall_rule.proofs.Numbers.{has_append, has_cons}
 use Rattle.hall_steps.specs.Hall.{EachHand, IsPass, LooksOn, SeesMore, TookParts, first_of}
 
 -- What follows where a number is below another, and where it is not, follows anyway.
-below_or : (n m : ℕ) (Q : Type 0) → (n < m → Q) → (m ≤ n → Q) → Q
+pub below_or : (n m : ℕ) (Q : Type 0) → (n < m → Q) → (m ≤ n → Q) → Q
 below_or n m Q lt ge = bool_cases (ltb n m) Q (λ e. lt (ltb-true n m e)) (λ e. ge (ltb-false n m e))
 
 module _ {P : Type 0} where
@@ -107,7 +107,7 @@ module _ {P E T F : Type 0} (M : Meaning P E T F) where
 
   -- a view that is as it was sees as much
   pub sees_same : (v : View E) → SeesMore M v v
-  sees_same v = record { joined = refl; sessions = refl; mine = refl; sole = refl; stays = stays_put v.sessions v.log }
+  sees_same v = record { joined = refl; sessions = refl; mine = refl; sole = refl; reads = (refl, refl); stays = stays_put v.sessions v.log }
 
   -- one that looks on from a view that sees more sees more too
   pub sees_on : (id : ℕ) (v w x : View E) → SeesMore M v w → LooksOn M id w x → SeesMore M v x
@@ -119,6 +119,7 @@ module _ {P E T F : Type 0} (M : Meaning P E T F) where
         sessions = b.sessions ∙ a.sessions;
         mine = b.mine ∙ a.mine;
         sole = b.sole ∙ a.sole;
+        reads = (b.reads.0 ∙ a.reads.0, b.reads.1 ∙ a.reads.1);
         stays = stays_on v.sessions v.log w.log x.log a.stays (subst (λ qs. Stays M qs w.log x.log) a.sessions step);
       }
 

@@ -1,13 +1,14 @@
 //! The hall and its passes.
-ghost use Rattle.std.specs.Prelude.{◌≡◌, ℕ, ◌+◌, ◌*◌, ◌^◌, ◌<◌, ◌≤◌, true, List, [], ◌∷◌, ◌++◌};
-ghost use Rattle.std.specs.Prelude.{None, Some, MatchBool, length, slice_get, slice_set};
+ghost use Rattle.std.specs.Prelude.{◌≡◌, ◌≢◌, ℕ, ◌+◌, ◌*◌, ◌^◌, ◌<◌, ◌≤◌, true, List, [], ◌∷◌};
+ghost use Rattle.std.specs.Prelude.{◌++◌, None, Some, MatchBool, length, slice_get, slice_set};
 ghost use Rattle.hall_rule.specs.EventLog.{has, replay};
 ghost use Rattle.hall_rule.specs.HallInvariant.{hands_of};
 ghost use Rattle.hall_rule.specs.Hands.{Covers, Holds, IsAboveAll, SameRoom};
 ghost use Rattle.hall_rule.specs.Meaning.{meaning};
 ghost use Rattle.hall_rule.specs.Views.{entry_of, given};
 ghost use Rattle.hall_rule.specs.declared.view.Entry.{Entry};
-ghost use Rattle.hall_steps.specs.Hall.{Extends, IsPass, IsSameSeat, Looks, first_of, means};
+ghost use Rattle.hall_steps.specs.Hall.{Extends, IsPass, IsPassAt, IsSameSeat, Looks, first_of};
+ghost use Rattle.hall_steps.specs.Hall.{means, thawed_by};
 
 use crate::events::make;
 use crate::hands::Hands;
@@ -32,6 +33,8 @@ pub struct Hall<C: Parts> {
     pub(crate) shape: C::Shape,
     /// How many threads wait for each part.
     pub(crate) waiting: Vec<AtomicU64>,
+    /// How many threads wait for the readers of a block.
+    pub(crate) draining: AtomicU64,
     pub(crate) alloc: Global,
 }
 
@@ -151,7 +154,8 @@ impl<C: Parts> Hall<C> {
 
     /// Makes an event on parts that are held, and replies. The log goes on from all that the pass
     /// had seen and ends with this event. The reply is that of the state which the log before it
-    /// leaves. Where memory is refused the parts stay as they were.
+    /// leaves. Where memory is refused the parts stay as they were. The words of the blocks follow
+    /// them. A block that the event thaws was drained, and no other.
     #[inline(always)]
     pub fn event<L: Ledger>(
         &self,
@@ -159,7 +163,8 @@ impl<C: Parts> Hall<C> {
         event: C::Event,
         steps: &mut Steps<L>,
     ) -> C::Reply
-        requires pass { IsPass (means C.Parts self.now) self.now.id pass.old.seat pass.old.hands }
+        requires pass { IsPassAt (means C.Parts self.now)
+            (thawed_by (C.thaws self.now.shape event)) self.now.id pass.old.seat pass.old.hands }
         requires covered { Covers (C.touching self.now.shape event) (first_of pass.old.hands) }
         requires stands { C.stands self.now.shape event
             (replay (means C.Parts self.now) pass.old.seat.me.0.log) }

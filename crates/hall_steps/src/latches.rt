@@ -1,9 +1,10 @@
 //! Taking a part and giving it back.
 ghost use Rattle.std.specs.Prelude.{◌≡◌, ◌≢◌, ℕ, ◌+◌, ◌<◌, ◌==◌, List, [], ◌∷◌, ◌++◌, None, Some};
 ghost use Rattle.std.specs.Prelude.{cond, length, slice_get, slice_set};
-ghost use Rattle.hall_rule.specs.HallInvariant.{hands_of, latch_word, stage};
+ghost use Rattle.hall_rule.specs.HallInvariant.{hands_of, latch_word, stage, worn_by};
 ghost use Rattle.hall_rule.specs.EventLog.{replay};
 ghost use Rattle.hall_rule.specs.Hands.{Holds};
+ghost use Rattle.hall_rule.specs.Heads.{head_of};
 ghost use Rattle.hall_rule.specs.declared.view.Entry.{Entry};
 ghost use Rattle.hall_rule.specs.Meaning.{planned};
 ghost use Rattle.hall_rule.specs.Slots.{slot_of};
@@ -178,6 +179,10 @@ fn release<C: Parts>(board: &Board<C>, seat: &mut Place<C>, part: u32)
     requires value { (p : C.Part) × (seat.old.me.1 ≡ (slot_of part, Some p) ∷ [])
         × (slice_get (replay (planned C.Parts board.now.key) seat.old.me.0.log) part ≡ Some p) }
     requires held { (stage seat.old.me.0 part ≡ 2) × (seat.old.me.0.out ≡ part + 1) }
+    requires follows { (p : C.Part)
+        × (slice_get (replay (planned C.Parts board.now.key) seat.old.me.0.log) part ≡ Some p)
+        × (worn_by seat.old.me.0 part ≡ head_of (C.wears p)) }
+    requires drained { seat.old.me.0.drained ≡ 0 }
     ensures seat { IsSameSeat seat.old seat.new }
     ensures given { seat.new.me ≡ (given seat.old.me.0 part, []) }
 {
@@ -194,7 +199,7 @@ fn carry_out<C: Parts>(board: &Board<C>, seat: &mut Place<C>, part: u32) -> C::P
     ensures learned { (log : List (Entry C.Event))
         × Learned (planned C.Parts board.now.key) seat.old.id seat.old.me.0 log
         × (slice_get (replay (planned C.Parts board.now.key) log) part ≡ Some result)
-        × (seat.new.me ≡ (homed (loaded seat.old.me.0 part log), [])) }
+        × (seat.new.me ≡ (homed (loaded seat.old.me.0 part (head_of (C.wears result)) log), [])) }
 {
     learn(board, seat, part);
     let out = board.exchange(seat, slot_of(part), None);
@@ -212,6 +217,8 @@ fn carry_in<C: Parts>(board: &Board<C>, seat: &mut Place<C>, part: u32, held: C:
     requires held { (stage seat.old.me.0 part ≡ 2) × (seat.old.me.0.out ≡ 0) }
     requires value { slice_get (replay (planned C.Parts board.now.key) seat.old.me.0.log) part
         ≡ Some held }
+    requires follows { worn_by seat.old.me.0 part ≡ head_of (C.wears held) }
+    requires drained { seat.old.me.0.drained ≡ 0 }
     ensures seat { IsSameSeat seat.old seat.new }
     ensures given { seat.new.me ≡ (given seat.old.me.0 part, []) }
 {

@@ -8,9 +8,12 @@ mod hands;
 mod latches;
 mod opening;
 mod passes;
+mod readers;
 mod telling;
 mod walks;
+mod words;
 
 pub use closed::Closed;
 pub use hall::{Hall, Pass};
+pub use readers::{Claim, NotFrozen};
 pub use telling::Telling;

@@ -5,8 +5,8 @@ ghost use Rattle.hall_rule.specs.HallInvariant.{hands_of};
 ghost use Rattle.hall_rule.specs.Hands.{Holds};
 ghost use Rattle.hall_rule.specs.Meaning.{planned};
 ghost use Rattle.hall_rule.specs.Views.{Sees, dealt, greatest};
-ghost use Rattle.hall_steps.specs.Hall.{IsNew, IsPass, IsSameSeat, IsSized, Joined, first_of};
-ghost use Rattle.hall_steps.specs.Hall.{means};
+ghost use Rattle.hall_steps.specs.Hall.{IsNew, IsPass, IsSameSeat, IsSized, Joined, Looks};
+ghost use Rattle.hall_steps.specs.Hall.{first_of, means};
 
 use crate::hall::{Hall, Pass};
 use crate::hands::Hands;
@@ -15,7 +15,7 @@ use hall_rule::Parts;
 use std::marker::Brand;
 
 /// Sees the whole log.
-fn see<C: Parts>(board: &Board<C>, seat: &mut Place<C>)
+pub(crate) fn see<C: Parts>(board: &Board<C>, seat: &mut Place<C>)
     requires sized { IsSized (planned C.Parts board.now.key) board.now.table_id }
     requires table { seat.old.table_id ≡ board.now.table_id }
     requires live { seat.old.me.0.spent ≡ false }
@@ -73,13 +73,26 @@ impl<C: Parts> Hall<C> {
         }
     }
 
+    /// Sees the whole log.
+    #[inline(always)]
+    pub fn look(&self, pass: &mut Pass<C>)
+        requires pass { IsPass (means C.Parts self.now) self.now.id pass.old.seat pass.old.hands }
+        ensures pass { IsPass (means C.Parts self.now) self.now.id pass.new.seat pass.new.hands }
+        ensures seen { Looks (means C.Parts self.now) pass.old.seat pass.new.seat }
+        ensures hand { pass.new.hands ≡ pass.old.hands }
+        ensures taken { pass.new.seat.me.0.taken ≡ pass.old.seat.me.0.taken }
+    {
+        see(&self.table.shared, &mut pass.seat);
+    }
+
     /// Adds the numbers, the entries and the hands of a pass that has ended. That pass holds no
-    /// part. What either knew of the transactions of its own sessions still stands, and so do the
-    /// lasting facts of both.
+    /// part, and has no claim. What either knew of the transactions of its own sessions still
+    /// stands, and so do the lasting facts of both.
     pub fn join(&self, pass: &mut Pass<C>, ended: Pass<C>)
         requires pass { IsPass (means C.Parts self.now) self.now.id pass.old.seat pass.old.hands }
         requires ended { IsPass (means C.Parts self.now) self.now.id ended.seat ended.hands }
         requires empty { (k : ℕ) → ¬ Holds (first_of ended.hands) k }
+        requires free { ended.seat.me.0.claim ≡ 0 }
         ensures pass { IsPass (means C.Parts self.now) self.now.id pass.new.seat pass.new.hands }
         ensures seat { IsSameSeat pass.old.seat pass.new.seat }
         ensures joined { Joined (means C.Parts self.now) pass.old.seat.id ended.seat.id

@@ -1,15 +1,17 @@
 //! What a step tells, picked by each call: a `Play` can name neither the event nor the number of
 //! the pass.
-ghost use Rattle.std.specs.Prelude.{◌≡◌, ℕ, [], ◌∷◌, ◌+◌, ◌<◌, ◌%◌, ◌^◌, ◌==◌};
+ghost use Rattle.std.specs.Prelude.{◌≡◌, ℕ, [], ◌∷◌, ◌+◌, ◌-◌, ◌<◌, ◌%◌, ◌^◌, ◌==◌, bit_and};
 ghost use mathlib.Core.Option.{none};
 ghost use prog.Atomic.{either};
 ghost use Rattle.atomic_table.specs.Table.{Allows, Joins, Me, Step, step};
-ghost use Rattle.hall_rule.specs.HallInvariant.{Rule, latch_word};
+ghost use Rattle.hall_rule.specs.HallInvariant.{block_word, latch_word};
+ghost use Rattle.hall_rule.specs.Rule.{Rule};
 ghost use Rattle.hall_rule.specs.Meaning.{planned};
 ghost use Rattle.hall_rule.specs.Slots.{slot_of};
 ghost use Rattle.hall_rule.specs.Views.{dealt, greatest, newcomer, spent_view};
 
 use atomic_table::{Join, Play, Seat, Shared, Split};
+use block_word::CLEAR;
 use hall_rule::{HallRule, Parts, Plan, View};
 use std::marker::{Brand, PhantomData};
 use std::snapshot::Snapshot;
@@ -35,6 +37,13 @@ pub(crate) fn latch_word(part: u32) -> usize
     ensures { result ≡ latch_word part }
 {
     WORDS_APART * part as usize + WORDS_APART
+}
+
+/// The word of a block. It lies in its latch's line.
+pub(crate) fn block_word(part: u32) -> usize
+    ensures { result ≡ block_word part }
+{
+    latch_word(part) + 1
 }
 
 /// How many slots lie from that of one part to that of the next. Where a part is a tag and a
@@ -201,4 +210,82 @@ pub(crate) fn join_as<C: Parts, D: Joining<View<C::Event>>>(
     ensures me { seat.new.me ≡ (D.both seat.old.me.0 other.me.0, seat.old.me.1) }
 {
     board.join_seat::<Joined<D>>(seat, other);
+}
+
+/// Adds to the word of a block, and returns what was found there.
+pub(crate) fn add_as<C: Parts, D: Telling<Option<C::Part>, View<C::Event>>>(
+    board: &Board<C>,
+    seat: &mut Place<C>,
+    part: u32,
+    more: u64,
+) -> u64
+    requires table { seat.old.table_id ≡ board.now.table_id }
+    requires words { block_word part < board.now.table_id.words }
+    requires keeps { Allows (Rule (planned C.Parts board.now.key)) board.now.table_id.slots
+        seat.old.id seat.old.me (block_word part) (λ n. (n + more) % 2 ^ 64)
+        (D.tells (step board.now.table_id.slots (block_word part) more 0 none) seat.old.me) }
+    ensures table { seat.new.table_id ≡ seat.old.table_id }
+    ensures id { seat.new.id ≡ seat.old.id }
+    ensures told { D.tells (step board.now.table_id.slots (block_word part) more 0 none) seat.old.me
+        result seat.new.me }
+{
+    board.fetch_add::<Told<D>>(seat, block_word(part), more)
+}
+
+/// Takes one reader off the word of a block, and returns what was found there.
+pub(crate) fn sub_as<C: Parts, D: Telling<Option<C::Part>, View<C::Event>>>(
+    board: &Board<C>,
+    seat: &mut Place<C>,
+    part: u32,
+) -> u64
+    requires table { seat.old.table_id ≡ board.now.table_id }
+    requires words { block_word part < board.now.table_id.words }
+    requires keeps { Allows (Rule (planned C.Parts board.now.key)) board.now.table_id.slots
+        seat.old.id seat.old.me (block_word part) (λ n. (n + (2 ^ 64 - 1)) % 2 ^ 64)
+        (D.tells (step board.now.table_id.slots (block_word part) 1 0 none) seat.old.me) }
+    ensures table { seat.new.table_id ≡ seat.old.table_id }
+    ensures id { seat.new.id ≡ seat.old.id }
+    ensures told { D.tells (step board.now.table_id.slots (block_word part) 1 0 none) seat.old.me
+        result seat.new.me }
+{
+    board.fetch_sub::<Told<D>>(seat, block_word(part), 1)
+}
+
+/// Makes the word of a block hot, and returns what was found there.
+pub(crate) fn clear_as<C: Parts, D: Telling<Option<C::Part>, View<C::Event>>>(
+    board: &Board<C>,
+    seat: &mut Place<C>,
+    part: u32,
+) -> u64
+    requires table { seat.old.table_id ≡ board.now.table_id }
+    requires words { block_word part < board.now.table_id.words }
+    requires keeps { Allows (Rule (planned C.Parts board.now.key)) board.now.table_id.slots
+        seat.old.id seat.old.me (block_word part) (λ n. bit_and n (2 ^ 62 - 1))
+        (D.tells (step board.now.table_id.slots (block_word part) (2 ^ 62 - 1) 0 none)
+        seat.old.me) }
+    ensures table { seat.new.table_id ≡ seat.old.table_id }
+    ensures id { seat.new.id ≡ seat.old.id }
+    ensures told { D.tells (step board.now.table_id.slots (block_word part) (2 ^ 62 - 1) 0 none)
+        seat.old.me result seat.new.me }
+{
+    board.fetch_and::<Told<D>>(seat, block_word(part), CLEAR)
+}
+
+/// Loads the word of a block.
+pub(crate) fn look_as<C: Parts, D: Telling<Option<C::Part>, View<C::Event>>>(
+    board: &Board<C>,
+    seat: &mut Place<C>,
+    part: u32,
+) -> u64
+    requires table { seat.old.table_id ≡ board.now.table_id }
+    requires words { block_word part < board.now.table_id.words }
+    requires keeps { Allows (Rule (planned C.Parts board.now.key)) board.now.table_id.slots
+        seat.old.id seat.old.me (block_word part) (λ n. n)
+        (D.tells (step board.now.table_id.slots (block_word part) 0 0 none) seat.old.me) }
+    ensures table { seat.new.table_id ≡ seat.old.table_id }
+    ensures id { seat.new.id ≡ seat.old.id }
+    ensures told { D.tells (step board.now.table_id.slots (block_word part) 0 0 none) seat.old.me
+        result seat.new.me }
+{
+    board.load::<Told<D>>(seat, block_word(part))
 }

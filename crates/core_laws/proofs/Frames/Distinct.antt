@@ -129,3 +129,15 @@ named_at (x ∷ ns) (p ∷ s) (suc k) n piece d is at = go (same_name x n) refl 
 -- The part of a number is that of the number's name.
 pub part_is : (sh : Shape) (s : Parts) (k : ℕ) (n : Name) (piece : CorePart) → slice_get (names sh) k ≡ Some n → slice_get s k ≡ Some piece → part_named (names sh) s n ≡ Some piece
 part_is sh s k n piece = named_at (names sh) s k n piece (names_distinct sh)
+
+-- Where no name stands twice, each stands in one place.
+once : (ns : List Name) (j k : ℕ) (n : Name) → Distinct ns → slice_get ns j ≡ Some n → slice_get ns k ≡ Some n → j ≡ k
+once [] j k n d a b = cc
+once (x ∷ ns) zero zero n d a b = refl
+once (x ∷ ns) zero (suc k) n d a b = let same : x ≡ n = cc in absurd (d.0 (subst (λ y. Among y ns) (sym same) (got_among ns k n b)))
+once (x ∷ ns) (suc j) zero n d a b = let same : x ≡ n = cc in absurd (d.0 (subst (λ y. Among y ns) (sym same) (got_among ns j n a)))
+once (x ∷ ns) (suc j) (suc k) n d a b = ap suc (once ns j k n d.1 a b)
+
+-- the name of a part stands in one place
+pub stands_once : (sh : Shape) (j k : ℕ) (n : Name) → slice_get (names sh) j ≡ Some n → slice_get (names sh) k ≡ Some n → j ≡ k
+stands_once sh j k n = once (names sh) j k n (names_distinct sh)

@@ -1,45 +1,39 @@
 -- What each event leaves of a sealed or imaged block.
-use Rattle.std.proofs.Common.{◌≡◌, ◌≢◌, ℕ, ◌+◌, ℤ, Bool, true, false, cond, not, ◌&&◌, ◌==◌, List, [], ◌∷◌, map, fold, Option, None, Some, is_none, is_some, unwrap_or, refl, sym, ap, ◌∙◌, subst, arith}
+use Rattle.std.proofs.Common.{◌≡◌, ◌≢◌, ℕ, ◌+◌, ℤ, Bool, true, false, cond, not, ◌&&◌, ◌==◌, List, [], ◌∷◌, map, fold, Option, None, Some, is_none, unwrap_or, refl, sym, ap, ◌∙◌, subst, arith}
 use mathlib.Core.Logic.{inl, inr}
 use Rattle.std.specs.Prelude.{Result, Ok, Err, filter}
-use Rattle.std.specs.Option.{option_or}
 use Rattle.std.specs.List.{list_all}
 use Rattle.std.proofs.lemmas.Bool.Decides.{nat_tests}
 use Rattle.std.proofs.lemmas.Option.{same_Some}
 use Rattle.std.proofs.lemmas.Bool.{and_parts}
 use Rattle.block_layout.specs.Place.{block_of, slot_of}
-use Rattle.block_spec.specs.Bodies.{Body, committed_in, has_row, imaged, imaged_phase, is_front, last_stamp, is_loose, is_quiet, modified, observed, pruned_in, rolled_back_in, seal_fault, sealed, thawed, with_slot}
+use Rattle.block_spec.specs.Bodies.{Body, committed_in, imaged, imaged_phase, is_loose, is_quiet, modified, observed, pruned_in, rolled_back_in, seal_fault, sealed, thawed, with_slot}
 use Rattle.block_spec.specs.declared.change.Before.{Before}
 use Rattle.block_spec.specs.declared.change.Change.{Change}
 use Rattle.block_spec.specs.declared.change.Change.TheVariants as change
 use Rattle.block_spec.specs.declared.phase.Phase.{Phase}
 use Rattle.block_spec.specs.declared.phase.Phase.TheVariants.{Loose, Sealed, Imaged}
 use Rattle.block_spec.specs.declared.phase.SealFault.{SealFault}
-use Rattle.block_spec.specs.Slots.{Row, Slot, committed, has_none, is_bare, moved_in, moved_out, pruned, rolled_back, written}
+use Rattle.block_spec.specs.Slots.{Row, Slot, committed, has_none, moved_in, moved_out, pruned, rolled_back, written}
 use Rattle.core_laws.proofs.Events.Apart.{kept_among}
-use Rattle.core_laws.proofs.Events.Fitting.{fits_columns, versions_fit}
 use Rattle.core_laws.proofs.Events.Moved.{halves, left_half}
-use Rattle.core_laws.proofs.Events.Owners.{key_slot}
 use Rattle.event_spec.specs.declared.event.Event.TheVariants as event
 use Rattle.event_spec.specs.declared.event.MovePair.{MovePair}
 use Rattle.event_spec.specs.declared.own.OwnKey.{OwnKey}
 use Rattle.event_spec.specs.declared.reply.WriteFault.{WriteFault}
-use Rattle.event_spec.specs.declared.reply.WriteFault.TheVariants.{Exists, Full}
-use Rattle.event_spec.specs.Effects.{CoreEvent, after_change, after_insert, after_move, at_both, change_judged, changes_of, found, has_key, held_pairs, holds, insert_judged, is_some_write, may_move, moved_row, taken_by}
-use Rattle.event_spec.specs.Judged.{differences, fault_of, newer_by, next_place}
+use Rattle.event_spec.specs.Effects.{CoreEvent, after_change, after_insert, after_move, at_both, change_judged, changes_of, held_pairs, holds, insert_judged, is_some_write, moved_row}
+use Rattle.event_spec.specs.Judged.{differences}
 use Rattle.event_spec.specs.Lawful.{Among, HasBlock, IsLawful, IsThawed}
-use Rattle.event_spec.specs.Parts.{Parts, Shape, nothing, body_at, desk_at, head_at, is_head, places_at, slot_at, slots_of}
-use Rattle.event_spec.specs.Replay.{columns_in}
+use Rattle.event_spec.specs.Parts.{Parts, Shape, nothing, body_at, desk_at, is_head, slot_at}
 use Rattle.event_spec.specs.Sound.{IsShape, Sound}
 use Rattle.core_laws.specs.Frozen.Laws.{FrozenIsSettled, FrozenStays, stamp_of}
+use Rattle.core_laws.proofs.Frozen.Loose.{insert_loose, pair_loose, sealable}
 use Rattle.isolation_spec.specs.Contents.{key_of}
 use Rattle.core_laws.proofs.Sound.Bodies.{true_false}
-use Rattle.core_laws.proofs.Sound.Held.{none_by}
 use Rattle.core_laws.proofs.Sound.Fewer.{unwritten}
-use Rattle.core_laws.proofs.Sound.Inserts.{spot}
-use Rattle.core_laws.proofs.Sound.Keeps.{own_spot, shaped}
+use Rattle.core_laws.proofs.Sound.Keeps.{shaped}
 use Rattle.core_laws.proofs.Sound.Kept.{body_after}
-use Rattle.core_laws.proofs.Sound.Written.{change_goes, judged_ok, put_fits}
+use Rattle.core_laws.proofs.Sound.Written.{change_goes}
 use Rattle.undo_chain.specs.declared.undo.Undo.{Undo}
 use Rattle.undo_chain.specs.Entry.{is_stamped_by}
 use Rattle.undo_chain.specs.Stamped.{stamped}
@@ -124,22 +118,10 @@ module _ (sh : Shape) (s : Parts) (shape : IsShape sh) (ok : Sound sh s) (t b : 
   insert_same : (own : OwnKey) (u : ℕ) (row : Row) → IsLawful sh (event.Insert own u row) s → Same (body_at sh s t b) ((changes_of sh s (event.Insert own u row)).body t b (body_at sh s t b))
   insert_same own u row lawful = go (insert_judged sh s own u (key_of row)) refl
     where
-      loose_at : (p : ℕ) (w : Option ℕ) → own.written ≡ w → option_or own.written (next_place (head_at sh s u) (slots_of sh u)) ≡ Some p → is_loose (body_at sh s u (block_of p)).phase ≡ true
-      loose_at p (Some y) e goes =
-          let mine : own.written ≡ Some p = e ∙ sym (ap (λ w. option_or w (next_place (head_at sh s u) (slots_of sh u))) e) ∙ goes in
-          (own_spot sh s shape ok u p own.session ((key_slot sh s ok own u (key_of row) lawful.0).there p mine).1).loose
-      loose_at p None e goes =
-          (spot sh s (shaped sh s ok) shape u lawful.1.0 p
-          (record nothing { head = λ x h. cond (x == u) (taken_by (slots_of sh u) h) h; body = at_both u (block_of p) (with_slot (slot_of p) (written own.session (change.Put row))) })
-          (written own.session (change.Put row)) (sym (ap (λ w. option_or w (next_place (head_at sh s u) (slots_of sh u))) e) ∙ goes) (λ x h. refl) (λ x y z. refl) refl
-          (put_fits (columns_in sh u) own.session row (slot_at sh s u p).row (slot_at sh s u p).entries (fits_columns sh u row lawful.1.0 lawful.1.1) (versions_fit sh s ok u p))).loose
-
       go : (r : Result ℕ WriteFault) → insert_judged sh s own u (key_of row) ≡ r → Same (body_at sh s t b) ((after_insert sh s own u row (insert_judged sh s own u (key_of row))).body t b (body_at sh s t b))
       go (Err fault) is = subst (λ r. Same (body_at sh s t b) ((after_insert sh s own u row r).body t b (body_at sh s t b))) (sym is) (same (body_at sh s t b))
       go (Ok p) is = subst (λ r. Same (body_at sh s t b) ((after_insert sh s own u row r).body t b (body_at sh s t b))) (sym is)
-          (write_same u p (written own.session (change.Put row)) (loose_at p own.written refl (judged_ok
-          (option_or (fault_of (newer_by (slot_at sh s u) (places_at sh s u (key_of row)) own)) (cond (is_some (found sh s own u (key_of row))) (Some Exists) None))
-          (option_or own.written (next_place (head_at sh s u) (slots_of sh u))) (Full (head_at sh s u).inserts) p is).1))
+          (write_same u p (written own.session (change.Put row)) (insert_loose sh s shape ok own u row lawful p is))
 
   -- A change of a key that is thawed leaves this block its slots and its stamp.
   change_same : (own : OwnKey) (u : ℕ) (key : ℤ) (choice : Row → Change) → IsThawed sh u key s
@@ -176,15 +158,12 @@ module _ (sh : Shape) (s : Parts) (shape : IsShape sh) (ok : Sound sh s) (t b : 
   seal_same : (u y : ℕ) → Same (body_at sh s t b) ((changes_of sh s (event.Seal u y)).body t b (body_at sh s t b))
   seal_same u y = go (seal_fault (is_head sh s u y) (body_at sh s u y)) refl
     where
-      loose : (head : Bool) (body : Body) → seal_fault head body ≡ None → is_loose body.phase ≡ true
-      loose head body fine = (none_by (is_loose body.phase) head (has_row body) (is_front body.slots) (is_quiet body) body.cooling (body.last == last_stamp) fine).phase
-
       go : (o : Option SealFault) → seal_fault (is_head sh s u y) (body_at sh s u y) ≡ o
           → Same (body_at sh s t b) ((cond (is_none (seal_fault (is_head sh s u y) (body_at sh s u y))) (record nothing { body = at_both u y sealed }) nothing).body t b (body_at sh s t b))
       go (Some fault) is = subst (λ o. Same (body_at sh s t b) ((cond (is_none o) (record nothing { body = at_both u y sealed }) nothing).body t b (body_at sh s t b))) (sym is) (same (body_at sh s t b))
       go None is = subst (λ o. Same (body_at sh s t b) ((cond (is_none o) (record nothing { body = at_both u y sealed }) nothing).body t b (body_at sh s t b))) (sym is)
           (at_one u y sealed t b (body_at sh s t b) (λ e e'.
-          absurd (true_false (sym (loose (is_head sh s u y) (body_at sh s u y) is) ∙ ap (λ u. is_loose (body_at sh s u y).phase) (sym e) ∙ ap (λ y. is_loose (body_at sh s t y).phase) (sym e') ∙ closed))))
+          absurd (true_false (sym (sealable (is_head sh s u y) (body_at sh s u y) is).phase ∙ ap (λ u. is_loose (body_at sh s u y).phase) (sym e) ∙ ap (λ y. is_loose (body_at sh s t y).phase) (sym e') ∙ closed))))
 
   -- ---- a move
 
@@ -208,21 +187,6 @@ module _ (sh : Shape) (s : Parts) (shape : IsShape sh) (ok : Sound sh s) (t b : 
   move_same : (u : ℕ) (moves : List MovePair) → Same (body_at sh s t b) ((changes_of sh s (event.Move u moves)).body t b (body_at sh s t b))
   move_same u moves = go (held_pairs sh s u moves) (λ pair a. (kept_among (holds sh s u) moves pair a).1)
     where
-      open_both : (pair : MovePair) → holds sh s u pair ≡ true → (is_loose (body_at sh s u (block_of pair.source)).phase ≡ true) × (is_loose (body_at sh s u (block_of pair.target)).phase ≡ true)
-      open_both pair held =
-          let a = and_parts (may_move sh s u (block_of pair.source) && may_move sh s u (block_of pair.target) && has_key pair.key (slot_at sh s u pair.source).row && has_none (slot_at sh s u pair.source).entries)
-          (is_bare (slot_at sh s u pair.target)) held in
-          let b' = and_parts (may_move sh s u (block_of pair.source) && may_move sh s u (block_of pair.target) && has_key pair.key (slot_at sh s u pair.source).row) (has_none (slot_at sh s u pair.source).entries) a.0 in
-          let c = and_parts (may_move sh s u (block_of pair.source) && may_move sh s u (block_of pair.target)) (has_key pair.key (slot_at sh s u pair.source).row) b'.0 in
-          let d = and_parts (may_move sh s u (block_of pair.source)) (may_move sh s u (block_of pair.target)) c.0 in
-          (loose_of (block_of pair.source) d.0, loose_of (block_of pair.target) d.1)
-        where
-          loose_of : (y : ℕ) → may_move sh s u y ≡ true → is_loose (body_at sh s u y).phase ≡ true
-          loose_of y may =
-              let a = and_parts (is_loose (body_at sh s u y).phase && (body_at sh s u y).cooling && not (is_head sh s u y)) (has_row (body_at sh s u y)) may in
-              let b' = and_parts (is_loose (body_at sh s u y).phase && (body_at sh s u y).cooling) (not (is_head sh s u y)) a.0 in
-              (and_parts (is_loose (body_at sh s u y).phase) ((body_at sh s u y).cooling) b'.0).0
-
       other : (t ≡ u) → (y : ℕ) → is_loose (body_at sh s u y).phase ≡ true → y ≢ b
       other e y loose same_block = true_false (sym loose ∙ ap (λ u. is_loose (body_at sh s u y).phase) (sym e) ∙ ap (λ y. is_loose (body_at sh s t y).phase) same_block ∙ closed)
 
@@ -234,7 +198,7 @@ module _ (sh : Shape) (s : Parts) (shape : IsShape sh) (ok : Sound sh s) (t b : 
           at false e = subst (λ e. Same (body_at sh s t b) (cond e (fold (halves ((desk_at sh s).newest + 1) (moved_row sh s u) b) (body_at sh s t b) (first ∷ rest)) (body_at sh s t b))) (sym e) (same (body_at sh s t b))
           at true e = subst (λ e. Same (body_at sh s t b) (cond e (fold (halves ((desk_at sh s).newest + 1) (moved_row sh s u) b) (body_at sh s t b) (first ∷ rest)) (body_at sh s t b))) (sym e)
               (subst (Same (body_at sh s t b)) (sym (halves_same ((desk_at sh s).newest + 1) (moved_row sh s u) (first ∷ rest) (body_at sh s t b)
-              (λ pair a. let o = open_both pair (held pair a) in (other (num t u e) (block_of pair.source) o.0, other (num t u e) (block_of pair.target) o.1)))) (same (body_at sh s t b)))
+              (λ pair a. let o = pair_loose sh s u pair (held pair a) in (other (num t u e) (block_of pair.source) o.0, other (num t u e) (block_of pair.target) o.1)))) (same (body_at sh s t b)))
 
   -- ---- the events
 

@@ -24,7 +24,7 @@ use Rattle.core_laws.proofs.Sound.Keeps.{shaped}
 use Rattle.core_laws.proofs.Sound.Kept.{body_after}
 
 -- A number passes the test for equality with itself.
-num_refl : (a : ℕ) → (a == a) ≡ true
+pub num_refl : (a : ℕ) → (a == a) ≡ true
 num_refl a = grind (arith, nat_tests)
 
 -- a change of one body

@@ -37,6 +37,16 @@ pub record IsFine (l h r f q c e : Bool) : Type 0 where
   pub cold : c ≡ true
   pub stamp : e ≡ false
 
+-- behind a stamp that is not the last there is one more
+pub stamp_left : (n : ℕ) → n < 2 ^ 30 → (n == last_stamp) ≡ false → n + 1 < 2 ^ 30
+stamp_left n less ne = let apart : n ≢ 2 ^ 30 - 1 = differ n (2 ^ 30 - 1) ne in below n less apart
+  where
+    differ : (a b : ℕ) → (a == b) ≡ false → a ≢ b
+    differ a b ne e = absurd (grind (arith, nat_tests))
+
+    below : (n : ℕ) → n < 2 ^ 30 → n ≢ 2 ^ 30 - 1 → n + 1 < 2 ^ 30
+    below n less ne = omega (arith, less, ne)
+
 -- where no reason is found against a seal, each of them is absent
 pub none_by : (loose head row front quiet cooling last : Bool) → judged loose head row front quiet cooling last ≡ None → IsFine loose head row front quiet cooling last
 none_by false head row front quiet cooling last n = cc
@@ -195,17 +205,8 @@ module _ (sh : Shape) (t : ℕ) (x : Body) (old : BodyHolds sh t x) where
         sealed = λ stamp is. sym (same_stamp (x.last + 1) stamp is);
         imaged = λ stamp is. cc;
         rounds = old.rounds;
-        last = small x.last old.last all.stamp;
+        last = stamp_left x.last old.last all.stamp;
       }
     where
       same_stamp : (g stamp : ℕ) → Sealed g ≡ Sealed stamp → g ≡ stamp
       same_stamp g stamp e = cc
-
-      small : (n : ℕ) → n < 2 ^ 30 → (n == last_stamp) ≡ false → n + 1 < 2 ^ 30
-      small n less ne = let apart : n ≢ 2 ^ 30 - 1 = differ n (2 ^ 30 - 1) ne in below n less apart
-        where
-          differ : (a b : ℕ) → (a == b) ≡ false → a ≢ b
-          differ a b ne e = absurd (grind (arith, nat_tests))
-
-          below : (n : ℕ) → n < 2 ^ 30 → n ≢ 2 ^ 30 - 1 → n + 1 < 2 ^ 30
-          below n less ne = omega (arith, less, ne)

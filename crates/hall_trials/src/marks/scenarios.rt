@@ -48,10 +48,12 @@ fn take_turns<R: Wait, L: Ledger>(
         one.new.hands }
     ensures empty_one { IsEmpty (first_of one.new.hands) }
     ensures sessions_one { one.new.seat.me.0.sessions ≡ one.old.seat.me.0.sessions }
+    ensures claim_one { one.new.seat.me.0.claim ≡ one.old.seat.me.0.claim }
     ensures pass_two { IsPass (means ⟦<Marks as Parts>⟧ hall.now) hall.now.id two.new.seat
         two.new.hands }
     ensures empty_two { IsEmpty (first_of two.new.hands) }
     ensures sessions_two { two.new.seat.me.0.sessions ≡ two.old.seat.me.0.sessions }
+    ensures claim_two { two.new.seat.me.0.claim ≡ two.old.seat.me.0.claim }
 {
     let mut steps: Steps<L> = Steps::new(blank);
     if !begin(rt, hall, one, 1, &mut steps) {
@@ -92,10 +94,12 @@ fn take_turns_uncounted<R: Wait>(
         one.new.hands }
     ensures empty_one { IsEmpty (first_of one.new.hands) }
     ensures sessions_one { one.new.seat.me.0.sessions ≡ one.old.seat.me.0.sessions }
+    ensures claim_one { one.new.seat.me.0.claim ≡ one.old.seat.me.0.claim }
     ensures pass_two { IsPass (means ⟦<Marks as Parts>⟧ hall.now) hall.now.id two.new.seat
         two.new.hands }
     ensures empty_two { IsEmpty (first_of two.new.hands) }
     ensures sessions_two { two.new.seat.me.0.sessions ≡ two.old.seat.me.0.sessions }
+    ensures claim_two { two.new.seat.me.0.claim ≡ two.old.seat.me.0.claim }
 {
     take_turns::<R, Brand>(rt, hall, one, two, turns, Blank::new(1))
 }
@@ -140,6 +144,7 @@ fn raise_often<R: Wait, L: Ledger>(
         pass.new.hands }
     ensures empty { IsEmpty (first_of pass.new.hands) }
     ensures sessions { pass.new.seat.me.0.sessions ≡ pass.old.seat.me.0.sessions }
+    ensures claim { pass.new.seat.me.0.claim ≡ pass.old.seat.me.0.claim }
 {
     let mut steps: Steps<L> = Steps::new(blank);
     for _at in 0..times {
@@ -166,6 +171,7 @@ pub(super) fn raise_all<R: Wait>(
         pass.new.hands }
     ensures empty_pass { IsEmpty (first_of pass.new.hands) }
     ensures sessions_pass { pass.new.seat.me.0.sessions ≡ pass.old.seat.me.0.sessions }
+    ensures claim_pass { pass.new.seat.me.0.claim ≡ pass.old.seat.me.0.claim }
 {
     raise_often::<R, Brand>(rt, hall, pass, part, times, Blank::new(1));
 }
@@ -193,10 +199,12 @@ fn raise_both<R: Threads + Wait + Sync>(
         one.new.hands }
     ensures empty_one { IsEmpty (first_of one.new.hands) }
     ensures sessions_one { one.new.seat.me.0.sessions ≡ one.old.seat.me.0.sessions }
+    ensures claim_one { one.new.seat.me.0.claim ≡ one.old.seat.me.0.claim }
     ensures pass_two { IsPass (means ⟦<Marks as Parts>⟧ hall.now) hall.now.id two.new.seat
         two.new.hands }
     ensures empty_two { IsEmpty (first_of two.new.hands) }
     ensures sessions_two { two.new.seat.me.0.sessions ≡ two.old.seat.me.0.sessions }
+    ensures claim_two { two.new.seat.me.0.claim ≡ two.old.seat.me.0.claim }
 {
     join_mut(
         rt,
@@ -210,7 +218,8 @@ fn raise_both<R: Threads + Wait + Sync>(
             ensures { IsPass (meaning_of (vec_len hall.entry.now.core.marks)
                 hall.entry.now.core.marks.items hall.entry.now.passes) hall.entry.now.id
                 one.exit.now.seat one.exit.now.hands × (IsEmpty (first_of one.exit.now.hands))
-                × (one.exit.now.seat.me.0.sessions ≡ one.entry.now.seat.me.0.sessions) }
+                × (one.exit.now.seat.me.0.sessions ≡ one.entry.now.seat.me.0.sessions)
+                × (one.exit.now.seat.me.0.claim ≡ one.entry.now.seat.me.0.claim) }
         {
             raise_all(rt, hall, one, part, times);
         },
@@ -224,7 +233,8 @@ fn raise_both<R: Threads + Wait + Sync>(
             ensures { IsPass (meaning_of (vec_len hall.entry.now.core.marks)
                 hall.entry.now.core.marks.items hall.entry.now.passes) hall.entry.now.id
                 two.exit.now.seat two.exit.now.hands × (IsEmpty (first_of two.exit.now.hands))
-                × (two.exit.now.seat.me.0.sessions ≡ two.entry.now.seat.me.0.sessions) }
+                × (two.exit.now.seat.me.0.sessions ≡ two.entry.now.seat.me.0.sessions)
+                × (two.exit.now.seat.me.0.claim ≡ two.entry.now.seat.me.0.claim) }
         {
             raise_all(rt, hall, two, part, times);
         },

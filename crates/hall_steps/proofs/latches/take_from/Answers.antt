@@ -23,4 +23,5 @@ returns-clause-seen g c =
 pub returns-clause-taken : goal.returns-clause-taken
 returns-clause-taken g c =
     let t = c.carry_out-held.ensures.learned in
-    taken_at (meaning g.C.Parts c.args.board.now.key.core.value c.args.board.now.key.passes) c.args.seat.now c.latch.new.seat c.carry_out-held.new.seat c.args.part t.0 c.latch.ensures.taken t.3
+    let M = meaning g.C.Parts c.args.board.now.key.core.value c.args.board.now.key.passes in
+    taken_at M c.args.seat.now c.latch.new.seat c.carry_out-held.new.seat c.args.part (M.head c.carry_out-held.result) t.0 c.latch.ensures.taken t.3

@@ -44,18 +44,18 @@ part-requires g c =
     let room = c.join-2.ensures.pass.of.1.room in
     let a = c.in_ok-hall.ensures.shape.1 in
     let b = c.in_ok-hall.ensures.shape.2 in
-    subst (λ (x : List (Option ℕ)). Holds x 0) (sym c.close-closed.ensures) (all_held _ 0 (omega (arith, room, a, b)))
+    subst (λ (x : List (Option ℕ)). Holds x 0) (sym c.close-closed.ensures.parts) (all_held _ 0 (omega (arith, room, a, b)))
 
 pub part-requires-2 : goal.part-requires-2
 part-requires-2 g c =
     let room = c.join-2.ensures.pass.of.1.room in
     let a = c.in_ok-hall.ensures.shape.1 in
     let b = c.in_ok-hall.ensures.shape.2 in
-    subst (λ (x : List (Option ℕ)). Holds x 1) (sym c.close-closed.ensures) (all_held _ 1 (omega (arith, room, a, b)))
+    subst (λ (x : List (Option ℕ)). Holds x 1) (sym c.close-closed.ensures.parts) (all_held _ 1 (omega (arith, room, a, b)))
 
 pub part-requires-3 : goal.part-requires-3
 part-requires-3 g c =
     let room = c.join-2.ensures.pass.of.1.room in
     let a = c.in_ok-hall.ensures.shape.1 in
     let b = c.in_ok-hall.ensures.shape.2 in
-    subst (λ (x : List (Option ℕ)). Holds x 2) (sym c.close-closed.ensures) (all_held _ 2 (omega (arith, room, a, b)))
+    subst (λ (x : List (Option ℕ)). Holds x 2) (sym c.close-closed.ensures.parts) (all_held _ 2 (omega (arith, room, a, b)))

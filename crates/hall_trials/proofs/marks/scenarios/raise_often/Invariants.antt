@@ -10,5 +10,6 @@ invariant-loop-at g l = record {
   pass : IsPass (meaning ghosts l.hall.core l.hall.passes) l.hall.id l.pass.seat l.pass.hands;
   empty : IsEmpty (first_of l.pass.hands);
   sessions : l.pass.seat.me.0.sessions ≡ l.fn.pass.seat.me.0.sessions;
+  claim : l.pass.seat.me.0.claim ≡ l.fn.pass.seat.me.0.claim;
   few : length l.pass.seat.me.0.mine ≤ length l.fn.pass.seat.me.0.mine + l._at;
 }

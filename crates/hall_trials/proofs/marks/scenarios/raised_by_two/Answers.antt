@@ -11,4 +11,4 @@ part-requires g c =
     let room = c.join.ensures.pass.of.1.room in
     let a = c.in_ok-hall.ensures.shape.1 in
     let b = c.in_ok-hall.ensures.shape.2 in
-    subst (λ (x : List (Option ℕ)). Holds x 1) (sym c.close-closed.ensures) (all_held _ 1 (omega (arith, room, a, b)))
+    subst (λ (x : List (Option ℕ)). Holds x 1) (sym c.close-closed.ensures.parts) (all_held _ 1 (omega (arith, room, a, b)))

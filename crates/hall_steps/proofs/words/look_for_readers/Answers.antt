@@ -1,0 +1,17 @@
+use Rattle.hall_rule.specs.Meaning.{meaning}
+use Rattle.hall_rule.proofs.OfParts.{laws_of}
+use Rattle.hall_rule.proofs.Turning.{drains}
+use Rattle.hall_steps.proofs.words.look_for_readers.Goals as goal
+
+pub look_as-requires-clause-keeps : goal.look_as-requires-clause-keeps
+look_as-requires-clause-keeps g c κs within =
+    let m = g.met.C.Parts in
+    let key = c.args.board.now.key in
+    let laws = laws_of g.C.Parts m.keeps m.frame m.room m.local m.depends m.leaves m.outlives m.small m.turns m.still key.core.value key.passes in
+    let M = meaning g.C.Parts key.core.value key.passes in
+    let v = c.args.seat.now.me.0 in
+    let r = c.requires in
+    rw r.none_out (drains M laws c.args.board.now.table_id.slots c.args.seat.now.id v c.args.part r.at.live r.at.below r.held r.hot)
+
+pub returns-clause-emptied : goal.returns-clause-emptied
+returns-clause-emptied g c = let t = c.look_as.ensures.told in λ i. (t.0 i, t.1 i)
