@@ -1,4 +1,5 @@
 pub mod Dues
+pub mod Laying
 pub mod Meeting
 pub mod Moments
 pub mod Open

@@ -3,6 +3,7 @@ ghost use Rattle.run_laws.specs.Calls.Along.{CallsAreTheSessions, MachinesGoAlon
 ghost use Rattle.run_laws.specs.Calls.Asking.{EventsAreTheSessions, OthersAskNothing};
 ghost use Rattle.run_laws.specs.Calls.Coming.{LinesComeAbout};
 ghost use Rattle.run_laws.specs.Calls.Dues.{CallsAnswerDues};
+ghost use Rattle.run_laws.specs.Calls.Laying.{LendsAreLaid};
 ghost use Rattle.run_laws.specs.Calls.Lines.{LinesTellOutcomes};
 ghost use Rattle.run_laws.specs.Calls.Meeting.{MetRoundsAreDone};
 ghost use Rattle.run_laws.specs.Calls.Moments.{MomentsAreTheRound};
@@ -15,7 +16,13 @@ pub fn calls_answer_dues()
     ensures { CallsAnswerDues }
 {}
 
-/// What one brings to the end of a round is one's share of it.
+/// Traces of one log, each with the lends of one session, are laid into one trace that has the lends
+/// of all.
+pub fn lends_are_laid()
+    ensures { LendsAreLaid }
+{}
+
+/// What each brings to the end of a round is one's share of it.
 pub fn a_round_that_met_is_done()
     ensures { MetRoundsAreDone }
 {}

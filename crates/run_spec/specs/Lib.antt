@@ -2,8 +2,10 @@ pub mod Occurrences
 pub mod Opened
 pub mod Asked
 pub mod Told
+pub mod Traces
 pub mod Calls
 pub mod Ran
 pub mod Handed
 pub mod Examples
 pub mod RunExamples
+pub mod LendExamples

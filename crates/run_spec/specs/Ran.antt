@@ -1,9 +1,9 @@
--- A script, a log of events and a text belong together: the script ran, the log is what it did, and
--- the text is what it printed.
+-- A script, a log of events and a text belong together: the script ran, the log is what it did, but
+-- for the blocks that were lent, and the text is what it printed.
 use Rattle.std.specs.Prelude.{◌≡◌, ⊤, ℕ, ◌+◌, ◌≤◌, List, [], ◌∷◌, ◌++◌, map, Option, All}
 use Rattle.std.specs.List.{flat_map, range_with_len}
 use Rattle.event_spec.specs.Parts.{Shape}
-use Rattle.event_spec.specs.Replay.{IsLawfulLog}
+use Rattle.event_spec.specs.Replay.{IsLawfulLog, opening}
 use Rattle.outcome_spec.specs.Forms.{commands_of, turn_of, is_worker}
 use Rattle.timeline_spec.specs.Printed.{text_of}
 use Rattle.workload_spec.specs.declared.command.Command.{Command}
@@ -14,6 +14,7 @@ use Rattle.workload_spec.specs.declared.script.Line.{Line}
 use Rattle.workload_spec.specs.declared.script.Script.{Script}
 use Rattle.run_spec.specs.Calls.{Call, AreCalls}
 use Rattle.run_spec.specs.Occurrences.{Logged, Occurrence, occurrences_in, under}
+use Rattle.run_spec.specs.Traces.{Action, LendsFit, as_log, log_in}
 
 -- The core of a script has its tables, and a pass for each session and each worker.
 abbrev pub shape_of : Script → Shape
@@ -54,7 +55,7 @@ pub record Share : Type 0 where
 abbrev pub agenda_of : Share → Agenda
 agenda_of share = record { who = share.who; commands = map (λ call. call.command) share.calls }
 
--- A round that ran: its part of the log, and what each did.
+-- A round that ran: its part of the trace, and what each did.
 pub record RoundRun : Type 0 where
   pub made : List Occurrence
   pub shares : List Share
@@ -94,14 +95,19 @@ told_in rounds = flat_map
     (λ round. flat_map (λ share. map (λ call. call.told) share.calls) round.shares)
     rounds
 
--- The script ran with this log and printed this text. The log is lawful. In each round each session
--- carried out its commands and each worker its turns, in order; these calls have the events of the
--- log, which is the rounds' parts one behind the other, and the text is what they told.
+-- The script ran with this log and printed this text. The log is lawful. With the blocks that were
+-- lent at their points it is a trace, which is the rounds' parts one behind the other. In each
+-- round each session carried out its commands and each worker its turns, in order; these calls have
+-- the events and the lends of the trace, and the text is what they told.
 pub record Ran (script : Script) (log : List Logged) (text : List ℕ) : Type 0 where
   pub lawful : IsLawfulLog (shape_of script) (map (λ entry. entry.made) log)
+  pub trace : List Action
+  pub log_is : log ≡ log_in trace
+  pub lends : LendsFit (shape_of script) (opening (shape_of script)) trace
   pub rounds : List RoundRun
   pub asked
       : map (λ round. map agenda_of round.shares) rounds ≡ map (agendas_in script) script.rounds
-  pub parted : occurrences_in (shape_of script) log ≡ flat_map (λ round. round.made) rounds
+  pub parted
+      : occurrences_in (shape_of script) (as_log trace) ≡ flat_map (λ round. round.made) rounds
   pub done : AreRounds script [] rounds
   pub printed : text ≡ text_of script (told_in rounds)

@@ -1,5 +1,6 @@
 //! Worked examples of calls: each is a fact that the definitions compute.
 ghost use Rattle.run_spec.specs.RunExamples.{ExportsBesideAWorker};
+ghost use Rattle.run_spec.specs.LendExamples.{LendsStandForReads};
 ghost use Rattle.run_spec.specs.Examples.{GetsTellTheRow, WritesAreTheTransactions};
 ghost use Rattle.run_spec.specs.Examples.{ChangesThawFirst, OthersDoNot, ScansReadEachBlock};
 ghost use Rattle.run_spec.specs.Examples.{ExportsCountImages, PrunesGoBlockByBlock};
@@ -49,4 +50,10 @@ pub fn workers_take_turns()
 /// A session exports an empty table beside a worker's turn: script, log and text belong together.
 pub fn a_session_exports_beside_a_worker()
     ensures { ExportsBesideAWorker }
+{}
+
+/// An export that lends both blocks of its table: its lends stand for the reads of them, and the log
+/// has no entry of them.
+pub fn lends_stand_for_reads()
+    ensures { LendsStandForReads }
 {}

@@ -1,15 +1,16 @@
 -- What single events make of a session's calls.
-use Rattle.std.proofs.Common.{◌≡◌, ◌⊎◌, ℕ, Bool, true, false, not, ◌||◌, List, [], ◌∷◌, ◌++◌, Some, refl, sym, ap, ◌∙◌, subst, append_assoc}
+use Rattle.std.proofs.Common.{◌≡◌, ◌⊎◌, ℕ, Bool, true, false, not, ◌&&◌, ◌||◌, List, [], ◌∷◌, ◌++◌, Some, refl, sym, ap, ◌∙◌, subst, append_assoc}
 use mathlib.Core.Logic.{inl, inr}
 use Rattle.std.specs.Prelude.{MatchBool}
 use Rattle.event_spec.specs.Effects.{CoreEvent}
 use Rattle.event_spec.specs.Parts.{Shape}
 use Rattle.event_spec.specs.Replies.{CoreReply}
 use Rattle.run_spec.specs.Calls.{Call, IsCallBy, IsPart, IsWhole, is_final, is_memory, may_lack_memory}
-use Rattle.run_spec.specs.Handed.{GoesOn, own_in}
+use Rattle.run_spec.specs.Handed.{GoesOn, Stretch, own_in}
 use Rattle.run_spec.specs.Occurrences.{Logged, Occurrence}
-use Rattle.run_spec.specs.Told.{line_of, refusal_of}
+use Rattle.run_spec.specs.Told.{is_shared, line_of, refusal_of}
 use Rattle.workload_spec.specs.declared.reply.Said.TheVariants as said
+use Rattle.store_laws.proofs.Stretches.{events_are_a_stretch}
 use Rattle.store_laws.specs.Laws.{SingleEventsAreCalls}
 use Rattle.store_laws.specs.Own.{MakesOne, entry_of, occurrence_at, parts_after}
 
@@ -32,11 +33,17 @@ saw_and_made shape session old mid new e told seen same m = record {
   own = m.own ∙ ap (λ os. os ++ occurrence_at session (parts_after shape m.before) e told ∷ []) same;
 }
 
+-- an event that tells no image is a stretch of the log
+pub event_stretch : (shape : Shape) (session : ℕ) (old new : List Logged) (e : CoreEvent) (told : CoreReply) → (m : MakesOne shape session old new e told) → is_shared told ≡ false
+    → Stretch shape session old new (occurrence_at session (parts_after shape m.before) e told ∷ [])
+event_stretch shape session old new e told m unshared =
+    events_are_a_stretch shape session old new (occurrence_at session (parts_after shape m.before) e told ∷ []) (made_on shape session old new e told m) m.own
+    (ap (λ b. not b && true) unshared)
+
 -- a command that is one event is carried out by it
 pub single_events_are_calls : SingleEventsAreCalls
-single_events_are_calls shape session old new own command e told line own_is granted m events tells = record {
-  goes_on = made_on shape session old new e told m;
-  made = m.own;
+single_events_are_calls shape session old new own command e told line own_is granted m events tells unshared = record {
+  stretch = event_stretch shape session old new e told m unshared;
   is_call = subst (λ o. IsCallBy shape false session o (refusal_of command o) call) own_is
       (subst (λ r. IsCallBy shape false session own r call) (sym granted) (go (is_memory told) refl tells));
 }

@@ -64,6 +64,7 @@ looks_go_on shape session id old new hand held own' k k' sees knows = record {
     opened = opened_moves shape (replay (store_meaning shape) v.log) (replay (store_meaning shape) w.log) session own'
         (sees.stays.transactions session (ap (has session) knows.sessions ∙ has_head session [])) knows.opened;
   };
+  reads = sees.reads;
 }
   where
     v : View CoreEvent
@@ -161,6 +162,7 @@ joins_go_on shape session id other old new note hand held own' k k' no_hands no_
     opened = opened_moves shape (replay (store_meaning shape) v.log) (replay (store_meaning shape) w.log) session own'
         (joined.stood.transactions session among_old) knows.opened;
   };
+  reads = joined.reads;
 }
   where
     v : View CoreEvent

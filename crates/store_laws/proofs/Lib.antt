@@ -1,7 +1,10 @@
 pub mod Owned
 pub mod Going
-pub mod Calling
 pub mod Entries
+pub mod Lends
+pub mod Traces
+pub mod Stretches
+pub mod Calling
 pub mod Knowing
 pub mod Making
 pub mod Stamps
@@ -14,3 +17,4 @@ pub mod Scans
 pub mod Sights
 pub mod Looks
 pub mod Scanning
+pub mod Lent

@@ -8,6 +8,7 @@ use Rattle.block_spec.specs.Slots.{Row}
 use Rattle.core_laws.proofs.Events.Lists.{all_at}
 use Rattle.core_laws.proofs.Following.Desks.{same_number}
 use Rattle.core_laws.proofs.Events.Still.{all_stay}
+use Rattle.core_laws.proofs.Frozen.Moments.{shared_is}
 use Rattle.core_laws.proofs.Logs.Logs.{made_keeps, reaches_from}
 use Rattle.core_laws.proofs.Logs.Opening.{sound}
 use Rattle.core_laws.proofs.Sound.Bodies.{true_false}
@@ -21,7 +22,7 @@ use Rattle.event_spec.specs.Replay.{IsLawfulFrom, Made, after, opening, replay}
 use Rattle.event_spec.specs.Replies.{reply_to, rows_read}
 use Rattle.event_spec.specs.Sound.{IsShape, Sound}
 use Rattle.run_spec.specs.Told.{rows_told}
-use Rattle.store_laws.proofs.Sights.{owns_still, rows_still, shared_is}
+use Rattle.store_laws.proofs.Sights.{owns_still, rows_still}
 use Rattle.store_laws.proofs.Scans.{reads_are_the_scan, within}
 use Rattle.store_laws.specs.Reads.{AreTheScan, ReadsAreTheScanThroughout, behind, is_look, told_throughout}
 use Rattle.store_laws.specs.Scans.{all_read}

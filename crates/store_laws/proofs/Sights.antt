@@ -1,13 +1,10 @@
--- What a transaction reads, behind an event of another session and of an imaged block.
-use Rattle.std.proofs.Common.{◌≡◌, ◌≢◌, ℕ, true, cond, Option, None, Some, length, sym, ap, ◌∙◌, subst}
+-- What a transaction reads behind an event of another session.
+use Rattle.std.proofs.Common.{◌≡◌, ◌≢◌, ℕ, cond, Option, None, Some, length, sym, ap, ◌∙◌, subst}
 use Rattle.std.specs.List.{filter_map}
 use Rattle.block_layout.specs.Place.{place_of}
-use Rattle.block_spec.specs.Bodies.{is_imaged, rows_of}
 use Rattle.block_spec.specs.Slots.{Row}
-use Rattle.core_laws.proofs.Events.Naming.{follows_machine}
 use Rattle.core_laws.proofs.Events.Owners.{all_open}
 use Rattle.core_laws.proofs.Parts.Leaving.{leaves}
-use Rattle.core_laws.proofs.Snapshots.BlockReads.{reads_hold_each_row}
 use Rattle.core_laws.proofs.Snapshots.Sights.{seen_stays}
 use Rattle.core_laws.proofs.Sound.Invariant.{keeps}
 use Rattle.event_spec.specs.declared.own.OwnTransaction.{OwnTransaction}
@@ -49,13 +46,3 @@ module _ (shape : Shape) (parts : Parts) (e : CoreEvent) (is_shape : IsShape sha
       ap (λ n. filter_map (λ slot. row_read shape (effect shape parts e) own table (place_of block slot)) (below n)) count
       ∙ ap (λ (f : ℕ → Option Row). filter_map f (below (length (body_at shape parts table block).slots)))
       (λ i slot. row_still own table other owns (place_of block slot) i)
-
-module _ (shape : Shape) (parts : Parts) (is_shape : IsShape shape) (ok : Sound shape parts) where
-  -- the rows that a transaction reads of an imaged block are its rows
-  pub shared_is : (own : OwnTransaction) (table block : ℕ) → OwnsAll shape own parts → HasBlock shape table block → is_imaged (body_at shape parts table block).phase ≡ true
-      → rows_read shape parts own table block ≡ rows_of (body_at shape parts table block)
-  shared_is own table block owns has imaged =
-      let f = follows_machine shape parts ok in
-      let open' = all_open shape parts ok own owns in
-      let t = f.follows.desked.begun own.session own.snapshot open'.counted open'.is_open in
-      (reads_hold_each_row shape parts own table ok.follows.0 t.0 is_shape ok owns f t.1).shared block has imaged

@@ -14,13 +14,13 @@ use Rattle.hall_rule.specs.EventLog.{LawfulFrom, replay}
 use Rattle.hall_rule.specs.Views.{entry_of as hall_entry}
 use Rattle.hall_rule.specs.declared.view.Entry.{Entry}
 use Rattle.hall_rule.specs.declared.view.View.{View}
-use Rattle.hall_steps.specs.Hall.{EndsWith, Joined, Knows, SeesMore}
+use Rattle.hall_steps.specs.Hall.{EndsWith, Joined, Knows, SameClaim, SeesMore}
 use Rattle.run_spec.specs.Calls.{is_memory, may_lack_memory}
 use Rattle.run_spec.specs.Handed.{Called, GoesOn, own_in}
 use Rattle.run_spec.specs.Occurrences.{Logged}
 use Rattle.run_spec.specs.Opened.{own_after, own_behind}
 use Rattle.run_spec.specs.Asked.{events_of}
-use Rattle.run_spec.specs.Told.{line_of, refusal_of}
+use Rattle.run_spec.specs.Told.{is_shared, line_of, refusal_of}
 use Rattle.workload_spec.specs.declared.command.Command.{Command}
 use Rattle.workload_spec.specs.declared.reply.Said.{Said}
 use Rattle.workload_spec.specs.declared.reply.Said.TheVariants as said
@@ -34,14 +34,15 @@ LogsAreRuns = (shape : Shape) (log : List (Entry CoreEvent))
     → IsLawfulLog shape (made_in (log_of log))
     × (replay (store_meaning shape) log ≡ parts_after shape (log_of log))
 
--- From one log that a session has seen to a later one: it has no event of its own more, and the
--- same open.
+-- From one log that a session has seen to a later one: it has no event of its own more, the same
+-- open, and lends what it lent.
 pub record SeesOn
     (shape : Shape) (session : ℕ) (old new : View CoreEvent) (own : Option OwnTransaction)
     : Type 0 where
   pub goes_on : GoesOn (log_of old.log) (log_of new.log)
   pub same : own_in shape session (log_of new.log) ≡ own_in shape session (log_of old.log)
   pub knows : KnowsOwn shape session new own
+  pub reads : SameClaim old new
 
 -- A session that sees more has the same of its own.
 abbrev pub LooksGoOn : Type 0
@@ -100,7 +101,7 @@ TellsLine own command told line = MatchBool
     ((may_lack_memory command ≡ true) × (line ≡ said.Memory))
     (line_of own command (told ∷ []) ≡ Some line)
 
--- A command that is one event is carried out by it.
+-- A command that is one event, which tells no image, is carried out by it.
 abbrev pub SingleEventsAreCalls : Type 0
 SingleEventsAreCalls = (shape : Shape) (session : ℕ) (old new : List Logged)
     (own : Option OwnTransaction) (command : Command) (event : CoreEvent) (told : CoreReply)
@@ -112,6 +113,7 @@ SingleEventsAreCalls = (shape : Shape) (session : ℕ) (old new : List Logged)
     (occurrence_at session (parts_after shape made.before) event told ∷ [])
     ≡ event ∷ []
     → TellsLine own command told line
+    → is_shared told ≡ false
     → Called shape false session old new (record {
       command = command;
       made = occurrence_at session (parts_after shape made.before) event told ∷ [];

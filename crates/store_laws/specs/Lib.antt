@@ -3,6 +3,7 @@ pub mod Laws
 pub mod Logs
 pub mod Machines
 pub mod Own
+pub mod Stretches
 pub mod Room
 pub mod Reads
 pub mod Scans

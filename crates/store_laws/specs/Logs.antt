@@ -25,4 +25,4 @@ made_in log = map (λ entry. entry.made) log
 
 -- What the core's events mean to the hall of a store: it begins with the opening core.
 abbrev pub store_meaning : Shape → Meaning CorePart CoreEvent Opened ℕ
-store_meaning shape = core_meaning shape (opening shape) shape.passes 0
+store_meaning shape = core_meaning shape (opening shape) shape.passes

@@ -9,6 +9,8 @@ pub mod scan_laws;
 ghost use Rattle.store_laws.specs.Laws.{EventsGoOn, JoinsGoOn, LooksGoOn, LogsAreRuns};
 ghost use Rattle.store_laws.specs.Laws.{SingleEventsAreCalls, StampsAreFew};
 ghost use Rattle.store_laws.specs.Machines.{CommitsGoOn, LogsFollowTheMachine};
+ghost use Rattle.store_laws.specs.Stretches.{EventsAreAStretch, NothingIsAStretch};
+ghost use Rattle.store_laws.specs.Stretches.{StretchesJoin, StretchesLeaveOpen};
 ghost use Rattle.store_laws.specs.Room.{FullIsFull, FullIsSpent, OpensEmpty, RoomIsCounted};
 
 /// The log of a store's hall is a lawful log of a run, and leaves the same parts.
@@ -27,12 +29,22 @@ pub fn an_event_is_ones_own()
     ensures { EventsGoOn }
 {}
 
+/// What a session made and lent from one log that it had seen to a later one is a stretch: events
+/// that told no image are one, so is nothing, and stretches one behind the other are one. Behind it
+/// the session has open what its events tell.
+pub fn stretches_go_on()
+    ensures events { EventsAreAStretch }
+    ensures nothing { NothingIsAStretch }
+    ensures join { StretchesJoin }
+    ensures open { StretchesLeaveOpen }
+{}
+
 /// The newest stamp is at most the number of events.
 pub fn stamps_are_few()
     ensures { StampsAreFew }
 {}
 
-/// A command that is one event is carried out by it.
+/// A command that is one event, and not the read of a block, is carried out by it.
 pub fn a_single_event_is_a_call()
     ensures { SingleEventsAreCalls }
 {}

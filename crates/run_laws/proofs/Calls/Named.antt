@@ -7,7 +7,7 @@ use Rattle.std.proofs.lemmas.Bool.Decides.{nat_tests}
 use Rattle.std.proofs.lemmas.List.Elements.{All-append, All-head, All-nil, All-tail, filter-append}
 use Rattle.std.proofs.lemmas.Bool.{and_from}
 use Rattle.event_spec.specs.Parts.{Parts, Shape}
-use Rattle.event_spec.specs.Replay.{after, opening}
+use Rattle.event_spec.specs.Replay.{IsLawfulLog, after, opening}
 use Rattle.outcome_spec.specs.Forms.{commands_of, is_worker}
 use Rattle.workload_spec.specs.declared.reply.Who.{Who}
 use Rattle.workload_spec.specs.declared.reply.Who.TheVariants.{Session, Worker}
@@ -15,6 +15,9 @@ use Rattle.workload_spec.specs.declared.script.Line.{Line}
 use Rattle.workload_spec.specs.declared.script.Script.{Script}
 use Rattle.run_spec.specs.Occurrences.{Logged, Occurrence, events_in, occurrences_from, under}
 use Rattle.run_spec.specs.Ran.{Ran, Agenda, AreRounds, IsDone, IsOfScript, IsRound, RoundRun, Share, agenda_of, agendas_in, session_of, shape_of, turns_of}
+use Rattle.run_spec.specs.Traces.{Action, as_log, log_in}
+use Rattle.store_laws.proofs.Traces.{whole_is_lawful}
+use Rattle.run_laws.proofs.Calls.Laying.{lends_lawful}
 use Rattle.run_laws.specs.Calls.Along.{are_named}
 use Rattle.run_laws.specs.Calls.Asking.{is_of}
 use Rattle.run_laws.specs.Calls.Named.{RunsGoAlong}
@@ -240,16 +243,39 @@ named_log shape parts [] = refl
 named_log shape parts (entry ∷ log) =
     ap (λ (b : Bool). is_of entry.session entry.made.event && b) (named_log shape (after shape parts entry.made) log)
 
--- The events of a run stand under their own sessions.
-pub run_named : (script : Script) (log : List Logged) (text : List ℕ) → Ran script log text → are_named log ≡ true
+-- Where each entry of a trace is its session's, so is each event's.
+named_events : (trace : List Action) → are_named (as_log trace) ≡ true → are_named (log_in trace) ≡ true
+named_events [] named = refl
+named_events (action ∷ trace) named =
+    go (named_events trace (and_second first (are_named (as_log trace)) named)) action.lent
+  where
+    first : Bool
+    first = is_of action.entry.session action.entry.made.event
+
+    go : are_named (log_in trace) ≡ true → (lent : Bool) → are_named (cond lent (log_in trace) (action.entry ∷ log_in trace)) ≡ true
+    go h true = h
+    go h false = and_from first (are_named (log_in trace)) (and_first first (are_named (as_log trace)) named) h
+
+-- The events and lends of a run stand under their own sessions.
+pub run_named : (script : Script) (log : List Logged) (text : List ℕ) → (ran : Ran script log text) → are_named (as_log ran.trace) ≡ true
 run_named script log text ran =
-    named_log (shape_of script) (opening (shape_of script)) log
+    named_log (shape_of script) (opening (shape_of script)) (as_log ran.trace)
     ∙ ap (list_all is_its) ran.parted
     ∙ each_is_its
     script
     (made_in ran.rounds)
     (rounds_own script [] ran.rounds script.rounds ran.asked ran.done (λ q low high. refl))
     (all_of_script script [] ran.rounds ran.done)
+
+-- A run's trace is lawful as a log in which each lend is its read.
+pub run_lawful : (script : Script) (log : List Logged) (text : List ℕ) → (ran : Ran script log text)
+    → IsLawfulLog (shape_of script) (map (λ entry. entry.made) (as_log ran.trace))
+run_lawful script log text ran = whole_is_lawful
+    (shape_of script)
+    (opening (shape_of script))
+    ran.trace
+    (lends_lawful (shape_of script) (opening (shape_of script)) ran.trace ran.lends)
+    (subst (λ log. IsLawfulLog (shape_of script) (map (λ entry. entry.made) log)) ran.log_is ran.lawful)
 
 -- the machine goes along the log of a run
 pub runs_go_along : RunsGoAlong
@@ -258,4 +284,4 @@ runs_go_along script log text is_shape ran = machines_go_along
     log
     is_shape
     ran.lawful
-    (run_named script log text ran)
+    (ap are_named ran.log_is ∙ named_events ran.trace (run_named script log text ran))

@@ -40,7 +40,8 @@ use Rattle.run_spec.specs.Ran.{Ran, RoundRun, Share, shape_of, told_in}
 use Rattle.run_spec.specs.Told.{cause_told, told_by}
 use Rattle.run_laws.proofs.Calls.Along.{and_first, and_second, named}
 use Rattle.run_laws.proofs.Calls.Dues.{calls_answer}
-use Rattle.run_laws.proofs.Calls.Named.{run_named}
+use Rattle.run_laws.proofs.Calls.Named.{run_lawful, run_named}
+use Rattle.run_spec.specs.Traces.{as_log}
 use Rattle.run_laws.specs.Calls.Along.{are_named}
 use Rattle.run_laws.specs.Calls.Asking.{is_of}
 use Rattle.run_laws.specs.Calls.Dues.{dues_answered}
@@ -366,8 +367,8 @@ pub told_stands : (script : Script) (log : List Logged) (text : List ℕ) → is
     → AllMayStand (dues_of script) (told_in ran.rounds)
 told_stands script log text valid ran fit =
     let moments = runs_have_moments script log text ran in
-    let each = all_answer script valid (moments_of script ran.rounds) log (opening (shape_of script)) [] machine.opening []
-    (holds_first script (is_shape script valid)) ran.lawful (run_named script log text ran) moments.calls moments.events in
+    let each = all_answer script valid (moments_of script ran.rounds) (as_log ran.trace) (opening (shape_of script)) [] machine.opening []
+    (holds_first script (is_shape script valid)) (run_lawful script log text ran) (run_named script log text ran) moments.calls moments.events in
     subst (λ dues. AllMayStand dues (told_in ran.rounds)) (sym (calls_answer script ran.rounds ran.asked))
     (rounds_stand 1 ran.rounds (each_call script log text ran AnswersIf each) fit)
 

@@ -11,6 +11,7 @@ use Rattle.block_spec.specs.Bodies.{has_row, is_front, is_imaged, is_loose, rows
 use Rattle.block_spec.specs.declared.phase.Phase.{Phase}
 use Rattle.block_spec.specs.declared.phase.Phase.TheVariants.{Loose, Sealed, Imaged}
 use Rattle.block_spec.specs.Slots.{Row}
+use Rattle.core_laws.proofs.Frozen.Moments.{shared_is}
 use Rattle.core_laws.proofs.Events.Lists.{split}
 use Rattle.event_spec.specs.declared.event.Event.TheVariants as event
 use Rattle.event_spec.specs.declared.own.OwnTransaction.{OwnTransaction}
@@ -28,9 +29,10 @@ use Rattle.run_laws.proofs.Calls.Along.{and_first, and_second}
 use Rattle.run_laws.proofs.Counts.Stamps.{rows_few, rows_some}
 use Rattle.run_laws.proofs.Moments.Standing.{other_last, own_last}
 use Rattle.core_laws.proofs.Sound.Bodies.{true_false}
-use Rattle.store_laws.proofs.Sights.{owns_still, rows_still, shared_is}
+use Rattle.store_laws.proofs.Sights.{owns_still, rows_still}
 use Rattle.run_laws.proofs.Told.Splits.{heads, none_some, tails}
-use Rattle.run_laws.specs.Explained.Reads.{ReadsStand, Stands, StandsRead, is_read}
+use Rattle.run_laws.specs.Explained.Reads.{ReadsStand, Stands, StandsRead}
+use Rattle.store_laws.specs.Stretches.{reads_block}
 
 -- ---- rows of a read
 
@@ -139,7 +141,7 @@ module _ (shape : Shape) (parts : Parts) (is_shape : IsShape shape) (ok : Sound 
           })
 
 -- A read leaves the parts as they are.
-read_leaves : (shape : Shape) (parts : Parts) (e : CoreEvent) → is_read e ≡ true → effect shape parts e ≡ parts
+read_leaves : (shape : Shape) (parts : Parts) (e : CoreEvent) → reads_block e ≡ true → effect shape parts e ≡ parts
 read_leaves shape parts (event.Read own table block) e = Rattle.core_laws.proofs.Events.Still.all_stay (Rattle.event_spec.specs.Parts.names shape) parts
 read_leaves shape parts (event.Begin session) e = absurd (true_false (sym e))
 read_leaves shape parts (event.Get own table key) e = absurd (true_false (sym e))
@@ -158,7 +160,7 @@ read_leaves shape parts (event.Image table block image) e = absurd (true_false (
 read_leaves shape parts (event.Thaw table block) e = absurd (true_false (sym e))
 
 -- A read in the log leaves the parts, granted or refused memory.
-after_read : (shape : Shape) (parts : Parts) (entry : Logged) → is_read entry.made.event ≡ true → after shape parts entry.made ≡ parts
+after_read : (shape : Shape) (parts : Parts) (entry : Logged) → reads_block entry.made.event ≡ true → after shape parts entry.made ≡ parts
 after_read shape parts entry e = go entry.made.refused
   where
     go : (b : Bool) → cond b parts (effect shape parts entry.made.event) ≡ parts
@@ -190,11 +192,11 @@ events_append [] ys = refl
 events_append (x ∷ xs) ys = ap (λ es. x.event ∷ es) (events_append xs ys)
 
 -- Where two lists of events are together all reads, each of them is.
-all_front : (xs ys : List CoreEvent) → list_all is_read (xs ++ ys) ≡ true → (list_all is_read xs ≡ true) × (list_all is_read ys ≡ true)
+all_front : (xs ys : List CoreEvent) → list_all reads_block (xs ++ ys) ≡ true → (list_all reads_block xs ≡ true) × (list_all reads_block ys ≡ true)
 all_front [] ys e = (refl, e)
 all_front (x ∷ xs) ys e =
-    let rest = all_front xs ys (and_second (is_read x) (list_all is_read (xs ++ ys)) e) in
-    (and_from (is_read x) (list_all is_read xs) (and_first (is_read x) (list_all is_read (xs ++ ys)) e) rest.0, rest.1)
+    let rest = all_front xs ys (and_second (reads_block x) (list_all reads_block (xs ++ ys)) e) in
+    (and_from (reads_block x) (list_all reads_block xs) (and_first (reads_block x) (list_all reads_block (xs ++ ys)) e) rest.0, rest.1)
 
 -- two numbers are equal, or they are not
 pub same_number : (a b : ℕ) → (a ≡ b) ⊎ (a ≢ b)
@@ -231,12 +233,12 @@ reads_stand shape parts front entry is_shape ok lawful named stands q began done
             → Stands shape (after shape parts entry.made) q made
         at (inl none) = absurd (subst (Among made) none among)
         at (inr h) =
-            let both = all_front (events_in h.0) (entry.made.event ∷ []) (ap (list_all is_read) (sym (events_append h.0 (occurrence_of shape parts entry ∷ [])) ∙ ap events_in (sym h.1)) ∙ reads) in
-            let is_one : is_read entry.made.event ≡ true = and_first (is_read entry.made.event) true both.1 in
+            let both = all_front (events_in h.0) (entry.made.event ∷ []) (ap (list_all reads_block) (sym (events_append h.0 (occurrence_of shape parts entry ∷ [])) ∙ ap events_in (sym h.1)) ∙ reads) in
+            let is_one : reads_block entry.made.event ≡ true = and_first (reads_block entry.made.event) true both.1 in
             subst (λ p. Stands shape p q made) (sym (after_read shape parts entry is_one))
             (one both.0 (split h.0 (occurrence_of shape parts entry ∷ []) made (subst (Among made) h.1 among)))
           where
-            one : list_all is_read (events_in h.0) ≡ true → Among made h.0 ⊎ Among made (occurrence_of shape parts entry ∷ []) → Stands shape parts q made
+            one : list_all reads_block (events_in h.0) ≡ true → Among made h.0 ⊎ Among made (occurrence_of shape parts entry ∷ []) → Stands shape parts q made
             one front_reads (inl old) = stands q began h.0 (ap (λ n. under n front) same ∙ h.2) front_reads made old
             one front_reads (inr (inl e)) = subst (Stands shape parts q) (sym e) (λ own table block is.
                 subst (λ x. StandsRead shape parts q (record { session = entry.session; before = parts; event = x; reply = cond entry.made.refused reply.Memory (reply_to shape parts x) }) own table block) (sym is)

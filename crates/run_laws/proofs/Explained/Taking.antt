@@ -54,7 +54,8 @@ use Rattle.run_laws.specs.Told.Laws.{is_quiet}
 use Rattle.run_laws.specs.Moments.Laws.{IsAsked, command_told}
 use Rattle.run_laws.specs.Moments.Moments.{who_at}
 use Rattle.run_laws.proofs.Moments.Seats.{either, session_at, worker_at}
-use Rattle.run_laws.specs.Explained.Reads.{ReadsStandIn, Stands, is_read}
+use Rattle.run_laws.specs.Explained.Reads.{ReadsStandIn, Stands}
+use Rattle.store_laws.specs.Stretches.{reads_block}
 use Rattle.run_laws.proofs.Explained.Keys.{SameKeys, quiet_own}
 use Rattle.run_laws.proofs.Explained.Rereading.{read_together}
 use Rattle.run_laws.proofs.Explained.Scripts.{is_shape, session_asked, worker_upkeep}
@@ -162,10 +163,10 @@ module _ (script : Script) (valid : is_valid script ≡ true) (seat : ℕ) (part
   -- ---- a scan of a session
 
   -- A call whose events read blocks one after another has only reads.
-  all_reads : (own : OwnTransaction) (table : ℕ) (blocks : List ℕ) → events_in call.made ≡ map (event.Read own table) blocks → list_all is_read (events_in call.made) ≡ true
-  all_reads own table blocks e = ap (list_all is_read) e ∙ go blocks
+  all_reads : (own : OwnTransaction) (table : ℕ) (blocks : List ℕ) → events_in call.made ≡ map (event.Read own table) blocks → list_all reads_block (events_in call.made) ≡ true
+  all_reads own table blocks e = ap (list_all reads_block) e ∙ go blocks
     where
-      go : (bs : List ℕ) → list_all is_read (map (event.Read own table) bs) ≡ true
+      go : (bs : List ℕ) → list_all reads_block (map (event.Read own table) bs) ≡ true
       go [] = refl
       go (b ∷ bs) = go bs
 

@@ -50,7 +50,8 @@ use Rattle.run_laws.specs.Moments.Moments.{moments_of, replies_at, who_at, with_
 use Rattle.run_laws.proofs.Moments.Seats.{either}
 use Rattle.run_laws.proofs.Moments.Standing.{own_last}
 use Rattle.run_laws.proofs.Moments.Rounds.{runs_have_moments}
-use Rattle.run_laws.proofs.Calls.Named.{run_named}
+use Rattle.run_laws.proofs.Calls.Named.{run_lawful, run_named}
+use Rattle.run_spec.specs.Traces.{as_log}
 use Rattle.run_laws.specs.Explained.Timelines.{RunsGiveTimelines}
 use Rattle.run_laws.proofs.Explained.Bringing.{brings_end, brings_on, kept_alone, prune_counts, shown_as, whose_is}
 use Rattle.run_laws.proofs.Explained.Counting.{event_says, plain_counts}
@@ -474,6 +475,6 @@ runs_give_timelines script log text valid ran =
     record {
       threads = moments.threads;
       order = moments.order;
-      runs = all_run script valid (moments_of script ran.rounds) log (opening (shape_of script)) [] machine.opening []
-          (holds_first script (is_shape script valid)) ran.lawful (run_named script log text ran) moments.calls moments.events;
+      runs = all_run script valid (moments_of script ran.rounds) (as_log ran.trace) (opening (shape_of script)) [] machine.opening []
+          (holds_first script (is_shape script valid)) (run_lawful script log text ran) (run_named script log text ran) moments.calls moments.events;
     }

@@ -10,6 +10,7 @@ use Rattle.run_spec.specs.Handed.{own_in}
 use Rattle.run_spec.specs.Occurrences.{Logged, Occurrence, events_in, replies_in}
 use Rattle.run_spec.specs.Opened.{own_after}
 use Rattle.run_spec.specs.Told.{line_of, refusal_of, summary_of}
+use Rattle.store_laws.proofs.Stretches.{nothing_is_a_stretch}
 use Rattle.workload_spec.specs.declared.command.Command.TheVariants as command
 use Rattle.workload_spec.specs.declared.reply.Said.{Said}
 use Rattle.workload_spec.specs.declared.reply.Said.TheVariants as said
@@ -31,8 +32,7 @@ module _ (shape : Shape) (session : ℕ) (old new : List Logged) (own : OwnTrans
 -- Reads of all blocks, none refused memory, are an export that tells what they told.
 pub all_reads_are_an_export : AllReadsAreAnExport
 all_reads_are_an_export shape session old new own table made reads all granted = record {
-  goes_on = reads.goes_on;
-  made = reads.behind;
+  stretch = reads.stretch;
   is_call = is_call shape session old new own table made reads (summary_of own (replies_in made)) (inl (record {
     events = sym (asked shape session old new own table made reads ∙ ap (λ missed. events_in made ++ missed) all ∙ append-nil (events_in made));
     granted = granted;
@@ -43,8 +43,7 @@ all_reads_are_an_export shape session old new own table made reads all granted =
 -- Reads that broke off are an export that found no memory.
 pub some_reads_are_an_export : SomeReadsAreAnExport
 some_reads_are_an_export shape session old new own table made reads cut = record {
-  goes_on = reads.goes_on;
-  made = reads.behind;
+  stretch = reads.stretch;
   is_call = is_call shape session old new own table made reads said.Memory (inr (record {
     may = refl;
     missed = reads.missed;
@@ -57,7 +56,6 @@ some_reads_are_an_export shape session old new own table made reads cut = record
 -- An export without a transaction, or with one that wrote the table, makes no event.
 pub refused_exports_read_nothing : RefusedExportsReadNothing
 refused_exports_read_nothing shape session log table line refused = record {
-  goes_on = ([], sym (append-nil log));
-  made = sym (append-nil (own_in shape session log));
+  stretch = nothing_is_a_stretch shape session log log ([], sym (append-nil log)) refl;
   is_call = subst (λ r. IsCallBy shape false session (own_after (own_in shape session log)) r (export_call table [] line)) (sym refused) (refl, refl);
 }

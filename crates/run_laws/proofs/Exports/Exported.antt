@@ -19,7 +19,8 @@ use Rattle.run_laws.specs.Moments.Moments.{moments_of, replies_at}
 use Rattle.outcome_spec.specs.Entries.{Entry}
 use Rattle.outcome_spec.specs.Explained.{replies_of, run_in}
 use Rattle.outcome_spec.specs.Runs.{Run, run_of}
-use Rattle.run_laws.proofs.Calls.Named.{run_named}
+use Rattle.run_laws.proofs.Calls.Named.{run_lawful, run_named}
+use Rattle.run_spec.specs.Traces.{as_log}
 use Rattle.run_spec.specs.Ran.{shape_of, told_in}
 use Rattle.timeline_laws.proofs.Histories.{each-only}
 use Rattle.timeline_laws.proofs.Order.{Each-printed}
@@ -36,8 +37,8 @@ exports_are_said script log text bytes valid ran fit sent =
     let moments = runs_have_moments script log text ran in
     let t : Timeline script.tables (printed_of script (told_in ran.rounds)) (replies_at (moments_of script ran.rounds)) = runs_give_timelines script log text valid ran in
     let all = all_say script valid (printed_of script (told_in ran.rounds)) (replies_at (moments_of script ran.rounds)) t bytes (moments_of script ran.rounds)
-    log (opening (shape_of script)) [] machine.opening []
-    (holds_first script (is_shape script valid)) ran.lawful (run_named script log text ran) moments.calls moments.events
+    (as_log ran.trace) (opening (shape_of script)) [] machine.opening []
+    (holds_first script (is_shape script valid)) (run_lawful script log text ran) (run_named script log text ran) moments.calls moments.events
     (lines_of_calls (λ call. SendsBy script.tables call bytes) script ran.rounds sent.by_calls)
     (record {
       runs = t.runs;

@@ -23,7 +23,8 @@ use Rattle.run_laws.proofs.Explained.Exporting.{export_low}
 use Rattle.run_laws.proofs.Explained.Keys.{least_same, some_list}
 use Rattle.run_laws.proofs.Explained.Scripts.{is_shape, session_asked}
 use Rattle.run_laws.proofs.Explained.Taking.{Ended, has_table, none_open, one_open, owns_it, stand, stays}
-use Rattle.run_laws.specs.Explained.Reads.{Stands, is_read}
+use Rattle.run_laws.specs.Explained.Reads.{Stands}
+use Rattle.store_laws.specs.Stretches.{reads_block}
 use Rattle.export_spec.specs.Calls.{BreaksOff, IsFrontIn, SendsAs, groups_told}
 use Rattle.export_spec.specs.Sent.{AreBatchesOf, IsFrontOf, IsStreamOf}
 use Rattle.isolation_laws.specs.Inserts.{all_rows}
@@ -97,11 +98,11 @@ reads_cut own t (x ∷ made) (block ∷ blocks) e granted = go (reads_cut own t 
 
 -- Events that are the first of some reads are all reads.
 front_reads : (own : OwnTransaction) (t : ℕ) (made : List Occurrence) (missed : List CoreEvent) (blocks : List ℕ)
-    → map (event.Read own t) blocks ≡ events_in made ++ missed → list_all is_read (events_in made) ≡ true
+    → map (event.Read own t) blocks ≡ events_in made ++ missed → list_all reads_block (events_in made) ≡ true
 front_reads own t [] missed blocks e = refl
 front_reads own t (x ∷ made) missed [] e = absurd (none_some x.event (events_in made ++ missed) e)
-front_reads own t (x ∷ made) missed (block ∷ blocks) e = and_from (is_read x.event) (list_all is_read (events_in made))
-    (ap is_read (sym (heads (event.Read own t block) x.event (map (event.Read own t) blocks) (events_in made ++ missed) e)))
+front_reads own t (x ∷ made) missed (block ∷ blocks) e = and_from (reads_block x.event) (list_all reads_block (events_in made))
+    (ap reads_block (sym (heads (event.Read own t block) x.event (map (event.Read own t) blocks) (events_in made ++ missed) e)))
     (front_reads own t made missed blocks (tails (event.Read own t block) x.event (map (event.Read own t) blocks) (events_in made ++ missed) e))
 
 -- The first event of those that are the first of some reads is a read of a block.

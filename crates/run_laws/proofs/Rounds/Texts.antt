@@ -241,6 +241,9 @@ pub rounds_ran : RoundsRan
 rounds_ran script asked rounds finished ran = record {
   ran = record {
     lawful = ran.lawful;
+    trace = ran.trace;
+    log_is = ran.log_is;
+    lends = ran.lends;
     rounds = rounds;
     asked = ran.agendas;
     parted = ran.parted;

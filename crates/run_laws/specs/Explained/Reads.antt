@@ -1,9 +1,8 @@
 -- The reads of a session that follow each other tell what they would tell together.
-use Rattle.std.specs.Prelude.{◌≡◌, ℕ, ◌≤◌, Bool, true, false, List, [], ◌∷◌, ◌++◌, length}
+use Rattle.std.specs.Prelude.{◌≡◌, ℕ, ◌≤◌, true, false, List, [], ◌∷◌, ◌++◌, length}
 use Rattle.std.specs.List.{list_all}
 use Rattle.event_spec.specs.declared.event.Event.TheVariants as event
 use Rattle.event_spec.specs.declared.own.OwnTransaction.{OwnTransaction}
-use Rattle.event_spec.specs.Effects.{CoreEvent}
 use Rattle.event_spec.specs.Lawful.{Among, HasBlock, IsLawful, OwnsAll}
 use Rattle.event_spec.specs.Parts.{Parts, Shape, slots_of}
 use Rattle.event_spec.specs.Replay.{after}
@@ -12,25 +11,8 @@ use Rattle.event_spec.specs.Sound.{IsShape, Sound}
 use Rattle.run_spec.specs.Calls.{is_refused}
 use Rattle.run_spec.specs.Occurrences.{Logged, Occurrence, events_in, occurrence_of, under}
 use Rattle.run_spec.specs.Told.{is_shared, is_some_row, rows_told}
+use Rattle.store_laws.specs.Stretches.{reads_block}
 use Rattle.run_laws.specs.Calls.Open.{IsNamed}
-
-abbrev pub is_read : CoreEvent → Bool
-is_read (event.Begin session) = false
-is_read (event.Get own table key) = false
-is_read (event.Insert own table row) = false
-is_read (event.Update own table row) = false
-is_read (event.Delete own table key) = false
-is_read (event.Read own table block) = true
-is_read (event.Commit own) = false
-is_read (event.Abort own) = false
-is_read event.Oldest = false
-is_read (event.Observe table block) = false
-is_read (event.Prune table block oldest) = false
-is_read (event.Look table block) = false
-is_read (event.Move table moves) = false
-is_read (event.Seal table block) = false
-is_read (event.Image table block image) = false
-is_read (event.Thaw table block) = false
 
 -- An earlier read that was granted told what a read of its block tells in these parts.
 pub record StandsRead
@@ -53,7 +35,7 @@ Stands shape parts session made = (own : OwnTransaction) (table block : ℕ)
 abbrev pub ReadsStandIn : Shape → Parts → List Occurrence → Type 0
 ReadsStandIn shape parts front = (session : ℕ) (began done : List Occurrence)
     → under session front ≡ began ++ done
-    → list_all is_read (events_in done) ≡ true
+    → list_all reads_block (events_in done) ≡ true
     → (made : Occurrence) → Among made done → Stands shape parts session made
 
 -- An event keeps it.

@@ -7,7 +7,7 @@ use Rattle.event_spec.specs.Effects.{CoreEvent}
 use Rattle.event_spec.specs.Parts.{Shape}
 use Rattle.run_spec.specs.Asked.{at_blocks}
 use Rattle.run_spec.specs.Calls.{Call, is_cut_short, is_refused}
-use Rattle.run_spec.specs.Handed.{Called, GoesOn, own_in}
+use Rattle.run_spec.specs.Handed.{Called, Stretch, own_in}
 use Rattle.run_spec.specs.Occurrences.{Logged, Occurrence, events_in, replies_in}
 use Rattle.run_spec.specs.Opened.{least_written, own_after}
 use Rattle.run_spec.specs.Told.{refusal_of, summary_of}
@@ -20,15 +20,14 @@ abbrev pub export_call : ℕ → List Occurrence → Said → Call
 export_call table made told =
     record { command = command.Export table; made = made; told = Some told }
 
--- A session that had this transaction open, and had not written the table by it, read some first
--- blocks of the table, and made no other event meanwhile.
+-- A session that had this transaction open, and had not written the table by it, read or lent some
+-- first blocks of the table, and made no other event meanwhile.
 pub record ReadsOn
     (shape : Shape) (session : ℕ) (old new : List Logged) (own : OwnTransaction) (table : ℕ)
     (made : List Occurrence) : Type 0 where
   pub own_is : own_after (own_in shape session old) ≡ Some own
   pub clean : least_written table own ≡ None
-  pub goes_on : GoesOn old new
-  pub behind : own_in shape session new ≡ own_in shape session old ++ made
+  pub stretch : Stretch shape session old new made
   pub missed : List CoreEvent
   pub events : at_blocks shape table (event.Read own table) ≡ events_in made ++ missed
 

@@ -14,6 +14,7 @@ use Rattle.workload_spec.specs.declared.script.Script.{Script}
 use Rattle.run_spec.specs.Calls.{Call, IsCall}
 use Rattle.run_spec.specs.Occurrences.{Logged, Occurrence, occurrences_in, under}
 use Rattle.run_spec.specs.Ran.{Ran, RoundRun, Share, shape_of, told_in, turns_of}
+use Rattle.run_spec.specs.Traces.{as_log}
 use Rattle.run_laws.specs.Calls.Moments.{Lined, Moment, events_at}
 use Rattle.run_laws.specs.Moments.Moments.{moments_of, replies_at, who_at}
 
@@ -124,7 +125,8 @@ pub record HaveTheRun
   pub order : InOrder (replies_at moments)
   pub calls : AreMoments script [] moments
 
+-- So have those of a run, each lend as its read.
 abbrev pub RunsHaveMoments : Type 0
 RunsHaveMoments = (script : Script) (log : List Logged) (text : List ℕ)
     → (ran : Ran script log text)
-    → HaveTheRun script log ran.rounds (moments_of script ran.rounds)
+    → HaveTheRun script (as_log ran.trace) ran.rounds (moments_of script ran.rounds)

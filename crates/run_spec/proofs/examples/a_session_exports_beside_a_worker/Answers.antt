@@ -1,20 +1,24 @@
-use Rattle.std.proofs.Common.{◌≡◌, ◌&&◌, ℕ, Bool, true, false, List, [], ◌∷◌, Option, None, Some, refl, arith, pos, nat_le}
+use Rattle.std.proofs.Common.{◌≡◌, ◌&&◌, ℕ, Bool, true, false, not, List, [], ◌∷◌, map, Option, None, Some, refl, arith, pos, nat_le}
 use mathlib.Core.Logic.{inl}
 use Rattle.std.specs.Prelude.{All, take, drop}
 use Rattle.std.specs.List.{list_all}
 use Rattle.std.proofs.lemmas.List.Elements.{All-cons, All-nil}
+use Rattle.std.proofs.lemmas.Bool.{and_parts}
 use Rattle.std.proofs.lemmas.Bool.Decides.{nat_tests}
 use Rattle.event_spec.specs.Lawful.{IsOwn}
 use Rattle.event_spec.specs.Parts.{Parts}
+use Rattle.event_spec.specs.Replay.{after, opening, replies_from, reply_after}
 use Rattle.workload_spec.specs.declared.command.Command.{Command}
 use Rattle.workload_spec.specs.declared.command.Command.TheVariants as command
 use Rattle.workload_spec.specs.declared.reply.Said.{Said}
 use Rattle.workload_spec.specs.declared.reply.Said.TheVariants as said
 use Rattle.workload_spec.specs.declared.reply.Who.TheVariants.{Session, Worker}
 use Rattle.run_spec.specs.Calls.{Call}
-use Rattle.run_spec.specs.Occurrences.{Occurrence, occurrences_in, under}
+use Rattle.run_spec.specs.Occurrences.{Logged, Occurrence, occurrences_in, under}
 use Rattle.run_spec.specs.Ran.{IsDone, IsOfScript, RoundRun, Share, shape_of}
 use Rattle.run_spec.specs.RunExamples.{script, log, own}
+use Rattle.run_spec.specs.Told.{is_shared}
+use Rattle.run_spec.specs.Traces.{LendsFit, as_event}
 use Rattle.run_spec.proofs.examples.a_session_exports_beside_a_worker.Goals as goal
 
 abbrev made : List Occurrence
@@ -95,6 +99,21 @@ has_nothing parts = record {
   snapshot = refl;
   writes = λ table key place. (λ e. absurd (let never : ⊥ = cc e in never), λ h. absurd h);
 }
+
+-- Events that tell no image stand where they are.
+events_fit : (parts : Parts) (entries : List Logged)
+    → list_all (λ told. not (is_shared told)) (replies_from (shape_of script) parts (map (λ (entry : Logged). entry.made) entries)) ≡ true
+    → LendsFit (shape_of script) parts (map as_event entries)
+events_fit parts [] none = tt
+events_fit parts (entry ∷ entries) none =
+    let both = and_parts (not (is_shared (reply_after (shape_of script) parts entry.made))) (list_all (λ told. not (is_shared told)) (replies_from (shape_of script) (after (shape_of script) parts entry.made) (map (λ (entry : Logged). entry.made) entries))) none in (
+      record { lend = λ e. absurd (let never : ⊥ = cc e in never); read = λ e. none_shared (is_shared (reply_after (shape_of script) parts entry.made)) both.0 },
+      events_fit (after (shape_of script) parts entry.made) entries both.1,
+    )
+  where
+    none_shared : (b : Bool) → not b ≡ true → b ≡ false
+    none_shared false is = refl
+    none_shared true is = cc
 
 session_done : IsDone script [] made session_share
 session_done = record {
@@ -204,6 +223,9 @@ returns c = record {
       ),
     ),
   );
+  trace = map as_event log;
+  log_is = refl;
+  lends = events_fit (opening (shape_of script)) log refl;
   rounds = round ∷ [];
   asked = refl;
   parted = refl;
