@@ -3,7 +3,7 @@
 ghost use Rattle.std.specs.Prelude.{◌≡◌, ◌≢◌, ◌+◌, ◌<◌, ◌↔◌, IfOk, length, true};
 ghost use Rattle.isolation_spec.specs.Contents.{key_of, place_of};
 ghost use Rattle.shared_store.specs.Open.{IsAtRest};
-ghost use Rattle.shared_store.specs.Store.{IsSession, MakesAtMost};
+ghost use Rattle.shared_store.specs.Store.{IsFree, IsSession, MakesAtMost};
 ghost use Rattle.shared_store.specs.Store.{most_blocks_in_table, shape_in};
 ghost use Rattle.workload_spec.specs.Valid.{fits_table};
 ghost use Rattle.embedded.specs.Changing.{FindsChanges};
@@ -36,7 +36,7 @@ pub struct Changed {
 /// Inserts two rows in a transaction of one session, puts a changed row in the place of the first,
 /// deletes the second by its key, scans the table there and commits. Then another session meets the
 /// first, and scans the table in a transaction, which stays open. Both sessions have nothing open
-/// before.
+/// before, and have lent nothing.
 ///
 /// # Errors
 ///
@@ -56,6 +56,8 @@ pub fn change_rows<R: Wait>(
 ) -> Result<Changed, NotHanded>
     requires one { IsSession store.now one.old }
     requires two { IsSession store.now two.old }
+    requires free_one { IsFree one.old }
+    requires free_two { IsFree two.old }
     requires rests_one { IsAtRest one.old }
     requires rests_two { IsAtRest two.old }
     requires table { table < length (shape_in store.now).tables }
@@ -67,6 +69,8 @@ pub fn change_rows<R: Wait>(
     requires apart { key_of first ≢ key }
     ensures one { IsSession store.now one.new }
     ensures two { IsSession store.now two.new }
+    ensures free_one { IsFree one.new }
+    ensures free_two { IsFree two.new }
     ensures few_one { MakesAtMost (most_blocks_in_table + 8) one.old one.new }
     ensures few_two { MakesAtMost (most_blocks_in_table + 1) two.old two.new }
     ensures rests { IfOk result (λ _. IsAtRest one.new) }

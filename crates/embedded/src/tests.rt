@@ -2,7 +2,7 @@
 ghost use Rattle.std.specs.Prelude.{◌≡◌, IfOk, length, true};
 ghost use Rattle.isolation_spec.specs.Contents.{key_of};
 ghost use Rattle.shared_store.specs.Open.{IsAtRest};
-ghost use Rattle.shared_store.specs.Store.{IsSession, shape_in};
+ghost use Rattle.shared_store.specs.Store.{IsFree, IsSession, shape_in};
 ghost use Rattle.workload_spec.specs.Valid.{fits_table};
 
 use crate::changing::change_rows;
@@ -35,6 +35,7 @@ fn open(alloc: Global) -> Result<Opened, Fail>
     ensures one { IfOk result (λ opened. IsSession opened.store opened.one) }
     ensures two { IfOk result (λ opened. IsSession opened.store opened.two) }
     ensures rest { IfOk result (λ opened. IsAtRest opened.one × IsAtRest opened.two) }
+    ensures free { IfOk result (λ opened. IsFree opened.one × IsFree opened.two) }
 {
     let key = column(alloc, b"key".as_slice())?;
     let count = column(alloc, b"count".as_slice())?;

@@ -4,6 +4,7 @@ use Rattle.std.proofs.Common.{◌≡◌, ℕ, false, List, Option, None, Some, s
 use Rattle.std.specs.Prelude.{slice_get}
 use Rattle.std.proofs.lemmas.Option.{slice_get_within}
 use Rattle.block_spec.specs.Slots.{Row}
+use Rattle.event_spec.specs.declared.event.Event.TheVariants as event
 use Rattle.event_spec.specs.declared.own.OwnTransaction.{OwnTransaction}
 use Rattle.event_spec.specs.Parts.{CorePart, Shape}
 use Rattle.event_spec.specs.Replies.{CoreReply}
@@ -28,6 +29,10 @@ look_on_body sh t b = record { touches = λ held name. refl; low = λ name is. a
 -- and so does the laying of an image
 pub image_on_body : (sh : Shape) (t b : ℕ) (image : Option (List Row)) → IsOnBody sh t b (imaging t b image)
 image_on_body sh t b image = record { touches = λ held name. refl; low = λ name is. absurd (true≢false (sym is)) }
+
+-- and so does a thaw
+pub thaw_on_body : (sh : Shape) (t b : ℕ) → IsOnBody sh t b (event.Thaw t b)
+thaw_on_body sh t b = record { touches = λ held name. refl; low = λ name is. absurd (true≢false (sym is)) }
 
 -- ---- a part comes to an empty hand, and goes
 
@@ -70,6 +75,7 @@ gave_alone store session u w hands later own part alone gives is = record {
   log = gives.log;
   mine = gives.mine;
   taken = gives.taken;
+  reads = gives.reads;
 }
 
 -- behind the imaging of a block the pass holds the body alone, as before

@@ -10,6 +10,7 @@ use Rattle.hall_rule.specs.Hands.{Covers, Holds, SameRoom}
 use Rattle.shared_store.specs.Keeping.{GivesPart}
 use Rattle.shared_store.specs.Making.{Gives, IsAtDesk}
 use Rattle.shared_store.specs.Store.{HandsView, SeatView, StoreView}
+use Rattle.shared_store.proofs.Claims.{same_on}
 
 -- behind an event at the desk the desk is in the hand
 pub desk_held : (sh : Shape) (e : CoreEvent) (desk : ℕ) → slice_get (names sh) desk ≡ Some TheDesk → IsAtDesk sh e
@@ -26,4 +27,5 @@ gave_rest store session u v w mid later own part rest = record {
   log = rest.log ∙ part.log;
   mine = rest.mine ∙ part.mine;
   taken = rest.taken ∙ part.taken;
+  reads = same_on part.reads rest.reads;
 }

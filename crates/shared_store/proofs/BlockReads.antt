@@ -144,36 +144,9 @@ holds_before sh before entry log first is lawful = holds_front sh (opening sh) (
 -- ---- a read
 
 -- what it told fits the table, whatever it told
-told_fits : (sh : Shape) (s : Parts) (ok : Sound sh s) (own : OwnTransaction) (t b : ℕ) (told : CoreReply) → HasBlock sh t b
+pub told_fits : (sh : Shape) (s : Parts) (ok : Sound sh s) (own : OwnTransaction) (t b : ℕ) (told : CoreReply) → HasBlock sh t b
     → (told ≡ reply.Memory) ⊎ (told ≡ reply_to_read sh s own t b) → All (Fits (columns_in sh t)) (rows_told told) × (length (rows_told told) ≤ slots_of sh t)
 told_fits sh s ok own t b told has (inl is) =
     subst (λ (r : CoreReply). All (Fits (columns_in sh t)) (rows_told r) × (length (rows_told r) ≤ slots_of sh t)) (sym is) (All-nil (Fits (columns_in sh t)), omega arith)
 told_fits sh s ok own t b told has (inr is) =
     subst (λ (r : CoreReply). All (Fits (columns_in sh t)) (rows_told r) × (length (rows_told r) ≤ slots_of sh t)) (sym is) (block_fits sh s ok own t b has, block_few sh s ok own t b has)
-
--- a read that was made alone has read its block, and the session has open what it had
-pub read_done : (store : StoreView) (s new : Session) (own : OwnTransaction) (t b : ℕ) (told : CoreReply)
-    → IsSession store s → HasBlock (shape_in store) t b
-    → Makes store s.session s.pass.seat new.pass.seat new.pass.hands (own_of s) (event.Read own t b) told
-    → new.session ≡ s.session → own_of new ≡ own_of s → ReadsBlock store s new own t b told
-read_done store s new own t b told is has m same opened = record {
-  session = session;
-  same = same;
-  opened = opened;
-  makes = m.makes;
-  count = m.count;
-  took = m.took;
-  fits = both.0;
-  few = both.1;
-}
-  where
-    session : IsSession store new
-    session = session_is store new (subst (λ q. IsAt store q new.pass.seat new.pass.hands (own_of new)) (sym same)
-        (subst (IsAt store s.session new.pass.seat new.pass.hands) (sym opened) m.stands))
-
-    holds : CoreHolds (shape_in store) (parts_after (shape_in store) m.makes.before)
-    holds = holds_before (shape_in store) m.makes.before (entry_of s.session (event.Read own t b) told) (seen new) m.stands.within.pass.of.1.begins m.makes.log session.lawful
-
-    both : All (Fits (columns_in (shape_in store) t)) (rows_told told) × (length (rows_told told) ≤ slots_of (shape_in store) t)
-    both = told_fits (shape_in store) (parts_after (shape_in store) m.makes.before) holds.sound own t b told has
-        (told_or_memory store s.session s.pass.seat new.pass.seat new.pass.hands (own_of s) (event.Read own t b) told m)

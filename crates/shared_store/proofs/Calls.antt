@@ -1,6 +1,7 @@
 -- Calls of a session: refused without an event, without memory for one, or of one event.
-use Rattle.std.proofs.Common.{◌≡◌, ◌⊎◌, ℕ, Bool, true, false, List, [], ◌∷◌, Option, None, Some, option_map, is_some, refl, sym, ap, subst, ◌∙◌, append-nil, true≢false, ℤ, arith}
+use Rattle.std.proofs.Common.{◌≡◌, ◌⊎◌, ℕ, Bool, true, false, cond, not, ◌+◌, List, [], ◌∷◌, ◌++◌, Option, None, Some, length, option_map, is_some, refl, sym, ap, subst, ◌∙◌, append-nil, true≢false, ℤ, arith}
 use mathlib.Core.Logic.{inl, inr}
+use Rattle.core_laws.specs.Words.Words.{thawed_part}
 use Rattle.event_spec.specs.declared.event.Event.TheVariants as event
 use Rattle.event_spec.specs.declared.own.OwnTransaction.{OwnTransaction}
 use Rattle.event_spec.specs.declared.reply.Reply.TheVariants as reply
@@ -12,7 +13,16 @@ use Rattle.run_spec.specs.Calls.{IsCallBy, is_memory, may_lack_memory}
 use Rattle.run_spec.specs.Handed.{Called, own_in}
 use Rattle.run_spec.specs.Occurrences.{Logged, Occurrence}
 use Rattle.run_spec.specs.Opened.{own_after}
-use Rattle.run_spec.specs.Told.{refusal_of}
+use Rattle.run_spec.specs.Told.{is_shared, refusal_of}
+use Rattle.store_laws.proofs.Lends.{no_image_told}
+use Rattle.store_laws.proofs.Stretches.{nothing_is_a_stretch}
+use Rattle.store_laws.specs.Stretches.{is_event, reads_block}
+use Rattle.std.specs.Prelude.{count_by}
+use Rattle.std.specs.List.{list_all}
+use Rattle.std.proofs.lemmas.Bool.{and_parts}
+use Rattle.std.proofs.lemmas.List.Sums.{sum_by-append}
+use Rattle.shared_store.specs.Writing.{IsWriteReply}
+use Rattle.shared_store.proofs.Claims.{keeps_same, keeps_stays}
 use Rattle.workload_spec.specs.declared.command.Command.{Command}
 use Rattle.workload_spec.specs.declared.command.Command.TheVariants.{Begin}
 use Rattle.workload_spec.specs.declared.reply.Said.{Said}
@@ -27,13 +37,16 @@ use Rattle.store_laws.proofs.Going.{keys}
 use Rattle.store_laws.specs.OwnLaws.{HasOpened}
 use Rattle.run_spec.specs.Opened.{own_behind, own_key}
 use Rattle.shared_store.specs.Making.{FitsEach, Makes, MayMake, parts_seen}
-use Rattle.shared_store.specs.Store.{Answers, HandsView, HasRoomFor, IsAt, IsSession, SeatView, StoreView, TookPartsOf, opened_at, own_of, seen, shape_in, taken_by}
+use Rattle.shared_store.specs.Store.{Answers, EndsCall, EndsWithLast, HandsView, HasRoomFor, IsAt, IsSession, SeatView, StoreView, TookPartsOf, events_made, opened_at, own_of, seen, shape_in, taken_by}
 use Rattle.isolation_spec.specs.Contents.{PlaceMap, at_place, place_at}
 use Rattle.isolation_spec.specs.declared.place.Place.{Place}
 use Rattle.shared_store.specs.declared.session.Session.{Session}
 use Rattle.shared_store.proofs.Sessions.{session_is}
 use Rattle.store_laws.specs.Laws.{IsOfSession, TellsLine}
-use Rattle.store_laws.specs.Own.{occurrence_at, parts_after}
+use Rattle.std.specs.Prelude.{IfSome}
+use Rattle.std.specs.List.{last_or}
+use Rattle.run_spec.specs.Calls.{is_refused}
+use Rattle.store_laws.specs.Own.{entry_of, occurrence_at, parts_after}
 use Rattle.store_laws.proofs.Calling.{single_events_are_calls}
 
 -- a call without an event, of one whose own stays
@@ -42,8 +55,7 @@ module _ (shape : Shape) (session : ℕ) (old : List Logged) (own : Option OwnTr
   pub refused_call : (command : Command) (line : Said) → refusal_of command own ≡ Some line
       → Called shape false session old old (record { command = command; made = []; told = Some line })
   refused_call command line refused = record {
-    goes_on = ([], sym (append-nil old));
-    made = sym (append-nil (own_in shape session old));
+    stretch = nothing_is_a_stretch shape session old old ([], sym (append-nil old)) refl;
     is_call = subst (λ o. IsCallBy shape false session o (refusal_of command o) (record { command = command; made = []; told = Some line })) own_is
         (subst (λ r. IsCallBy shape false session own r (record { command = command; made = []; told = Some line })) (sym refused) (refl, refl));
   }
@@ -52,8 +64,7 @@ module _ (shape : Shape) (session : ℕ) (old : List Logged) (own : Option OwnTr
   pub unmade_call : (command : Command) → refusal_of command own ≡ None → may_lack_memory command ≡ true
       → Called shape false session old old (record { command = command; made = []; told = Some said.Memory })
   unmade_call command granted may = record {
-    goes_on = ([], sym (append-nil old));
-    made = sym (append-nil (own_in shape session old));
+    stretch = nothing_is_a_stretch shape session old old ([], sym (append-nil old)) refl;
     is_call = subst (λ o. IsCallBy shape false session o (refusal_of command o) (record { command = command; made = []; told = Some said.Memory })) own_is
         (subst (λ r. IsCallBy shape false session own r (record { command = command; made = []; told = Some said.Memory })) (sym granted)
         (inr (record { may = may; missed = events_of shape own session command []; events = refl; cut = refl; line = refl })));
@@ -66,6 +77,7 @@ took_none shape events log taken = record { parts = []; took = sym (append-nil t
 -- A call of one event: the session behind it, and what it answers.
 pub one_event_at : (store : StoreView) (old new : Session) (command : Command) (e : CoreEvent) (told : CoreReply) (line : Said)
     → IsSession store old
+    → reads_block e ≡ false
     → (m : Makes store old.session old.pass.seat new.pass.seat new.pass.hands (own_of old) e told)
     → new.session ≡ old.session
     → own_of new ≡ own_behind (own_of old) e told
@@ -73,21 +85,26 @@ pub one_event_at : (store : StoreView) (old new : Session) (command : Command) (
     → events_of (shape_in store) (own_of old) old.session command (occurrence_at old.session (parts_after (shape_in store) m.makes.before) e told ∷ []) ≡ e ∷ []
     → TellsLine (own_of old) command told line
     → IsSession store new × Answers store old new command line
-one_event_at store old new command e told line is m same own_now granted events tells = (
+one_event_at store old new command e told line is other m same own_now granted events tells = (
   session_is store new (subst (λ q. IsAt store q new.pass.seat new.pass.hands (own_of new)) (sym same)
       (subst (IsAt store old.session new.pass.seat new.pass.hands) (sym own_now) m.stands)),
   record {
     made = occurrence_at old.session (parts_after (shape_in store) m.makes.before) e told ∷ [];
-    called = single_events_are_calls (shape_in store) old.session (seen old) (seen new) (own_of old) command e told line is.own granted m.makes events tells;
-    count = m.count;
-    ends = (m.makes.before, m.makes.log);
+    called = single_events_are_calls (shape_in store) old.session (seen old) (seen new) (own_of old) command e told line is.own granted m.makes events tells unshared;
+    count = m.count ∙ ap (λ b. events_made old + (0 + cond {A = ℕ} (not b) 1 0)) (sym unshared);
+    ends = λ event' last. (m.makes.before, m.makes.log);
+    reads = keeps_same m.reads;
     took = subst (λ es. TookPartsOf (shape_in store) es (seen old) (seen new) (taken_by old) (taken_by new)) (sym events) m.took;
   },
 )
+  where
+    unshared : is_shared told ≡ false
+    unshared = ap is_shared m.makes.reply ∙ no_image_told (shape_in store) (parts_after (shape_in store) m.makes.before) e (is_memory told) other
 
 -- The same of a command whose events hang on nothing that was made.
 pub one_event : (store : StoreView) (old new : Session) (command : Command) (e : CoreEvent) (told : CoreReply) (line : Said)
     → IsSession store old
+    → reads_block e ≡ false
     → Makes store old.session old.pass.seat new.pass.seat new.pass.hands (own_of old) e told
     → new.session ≡ old.session
     → own_of new ≡ own_behind (own_of old) e told
@@ -95,8 +112,8 @@ pub one_event : (store : StoreView) (old new : Session) (command : Command) (e :
     → ((events : List Occurrence) → events_of (shape_in store) (own_of old) old.session command events ≡ e ∷ [])
     → TellsLine (own_of old) command told line
     → IsSession store new × Answers store old new command line
-one_event store old new command e told line is m same own_now granted events tells =
-    one_event_at store old new command e told line is m same own_now granted
+one_event store old new command e told line is other m same own_now granted events tells =
+    one_event_at store old new command e told line is other m same own_now granted
     (events (occurrence_at old.session (parts_after (shape_in store) m.makes.before) e told ∷ [])) tells
 
 -- A call without an event leaves the session as it was.
@@ -106,17 +123,19 @@ no_event store s command line is refused = record {
   called = refused_call (shape_in store) s.session (seen s) (own_of s) is.own command line refused;
   count = omega arith;
   ends = tt;
+  reads = keeps_stays;
   took = took_none (shape_in store) (events_of (shape_in store) (own_of s) s.session command []) (seen s) (taken_by s);
 }
 
 -- The session's pass may make an event that stands by what it has open and fits each core.
-pub may_make : (store : StoreView) (s : Session) (e : CoreEvent) → IsSession store s → HasRoomFor 1 s → IsOfSession s.session e
+pub may_make : (store : StoreView) (s : Session) (e : CoreEvent) → IsSession store s → HasRoomFor 1 s → IsOfSession s.session e → thawed_part (shape_in store) e ≡ None
     → Stands (shape_in store) e (parts_seen (shape_in store) s.pass.seat.me.0) → FitsEach (shape_in store) e → MayMake store s.pass.seat s.pass.hands e
-may_make store s e is room mine stands fits = record {
+may_make store s e is room mine thawless stands fits = record {
   session = s.session;
   own = own_of s;
   at' = is.stands;
   mine = mine;
+  thawless = thawless;
   stands = stands;
   fits = fits;
   few = omega (arith, room);
@@ -184,6 +203,7 @@ unmade store s writes command is granted may = record {
   called = unmade_call (shape_in store) s.session (seen s) (own_of s) is.own command granted may;
   count = omega arith;
   ends = tt;
+  reads = keeps_stays;
   took = took_none (shape_in store) (events_of (shape_in store) (own_of s) s.session command []) (seen s) (taken_by s);
 }
 
@@ -213,3 +233,51 @@ begin_refused s open' = go s.snapshot open'
     go : (o : Option Snapshot) → is_some o ≡ true → refusal_of Begin (option_map (opened_at s.session s.writes) o) ≡ Some said.InTransaction
     go None h = absurd (true≢false (sym h))
     go (Some x) h = refl
+
+-- A write's reply is no image.
+pub write_unshared : (told : CoreReply) → IsWriteReply told → is_shared told ≡ false
+write_unshared (reply.Begun snapshot) is = refl
+write_unshared (reply.Found row) is = refl
+write_unshared (reply.Written slot) is = refl
+write_unshared (reply.Refused fault) is = refl
+write_unshared (reply.Rows rows) is = refl
+write_unshared (reply.Shared rows) is = absurd is
+write_unshared (reply.Committed number) is = refl
+write_unshared reply.Aborted is = refl
+write_unshared (reply.Oldest stamp) is = refl
+write_unshared (reply.Turned turned) is = refl
+write_unshared (reply.Dropped count) is = refl
+write_unshared (reply.Looked look) is = refl
+write_unshared (reply.Moved count) is = refl
+write_unshared (reply.Sealed stamp) is = refl
+write_unshared (reply.NotSealed fault) is = refl
+write_unshared (reply.Imaged rows) is = refl
+write_unshared reply.NoSeal is = refl
+write_unshared reply.Thawed is = refl
+write_unshared reply.Memory is = refl
+
+-- events that tell no image are as many as they are
+pub all_events : (made : List Occurrence) → list_all is_event made ≡ true → count_by is_event made ≡ length made
+all_events [] all = refl
+all_events (o ∷ made) all =
+    let both = and_parts (is_event o) (list_all is_event made) all in
+    let rest = all_events made both.1 in
+    let one : cond {A = ℕ} (is_event o) 1 0 ≡ 1 = ap (λ b. cond {A = ℕ} b 1 0) both.0 in
+    events_one o made ∙ ap (λ n. n + count_by is_event made) one ∙ omega (arith, rest)
+  where
+    events_one : (o : Occurrence) (made : List Occurrence) → count_by is_event (o ∷ made) ≡ cond {A = ℕ} (is_event o) 1 0 + count_by is_event made
+    events_one o made =
+        let parted : count_by is_event (o ∷ made) ≡ (0 + cond {A = ℕ} (is_event o) 1 0) + count_by is_event made =
+        sum_by-append (λ (o : Occurrence). cond {A = ℕ} (is_event o) 1 0) (o ∷ []) made in
+        omega (arith, parted)
+
+-- a log that ends with the last of these, where it is an event, ends with the call's last
+pub ends_call : (told : Said) (made : List Occurrence) (log : List Logged) → EndsWithLast made log → EndsCall told made log
+ends_call told made log ends = go (last_or None made) ends
+  where
+    go : (o : Option Occurrence)
+        → IfSome o (λ last. is_event last ≡ true → (before : List Logged) × (log ≡ before ++ entry_of last.session last.event last.reply ∷ []))
+        → IfSome o (λ last. is_event last ≡ true → (told ≡ said.Memory → reads_block last.event ≡ true → is_refused last ≡ true)
+        → (before : List Logged) × (log ≡ before ++ entry_of last.session last.event last.reply ∷ []))
+    go None e = tt
+    go (Some last) e = λ event' wanting. e event'

@@ -7,6 +7,7 @@ use Rattle.std.proofs.lemmas.List.{length-map}
 use Rattle.engine_core.specs.Asks.{HasKeyParts, IsOfCore}
 use Rattle.core_laws.proofs.Events.Lists.{in_right}
 use Rattle.core_laws.specs.Following.Laws.{command_of}
+use Rattle.core_laws.specs.Words.Words.{thawed_part}
 use Rattle.event_spec.specs.declared.event.Event.TheVariants as event
 use Rattle.event_spec.specs.declared.own.OwnTransaction.{OwnTransaction}
 use Rattle.event_spec.specs.declared.reply.Reply.TheVariants as reply
@@ -44,16 +45,21 @@ use Rattle.workload_spec.specs.declared.command.Command.TheVariants as command
 use Rattle.workload_spec.specs.declared.reply.Said.{Said}
 use Rattle.workload_spec.specs.declared.reply.Said.TheVariants as said
 use Rattle.shared_store.specs.Changing.{Changes, ChangesHeld, HasMade, IsChangeBy, IsChangeOf, IsChangeTo}
-use Rattle.shared_store.specs.Making.{Gives, IsFew, MakesHeld, MayMakeHeld, Takes, parts_seen}
+use Rattle.shared_store.specs.Making.{Gives, IsFew, MakesHeld, MayMakeHeld, MayThawHeld, Takes, parts_seen}
 use Rattle.shared_store.specs.Store.{Answers, EndsWithLast, HandsView, IsAt, IsSession, IsWithin, SeatView, StoreView, TookPartsOf, own_of, seen, shape_in, taken_by}
 use Rattle.shared_store.specs.Writing.{IsWriteReply, is_written}
 use Rattle.shared_store.specs.declared.session.Session.{Session}
 use Rattle.shared_store.proofs.Along.{change_along, nothing_along}
 use Rattle.shared_store.proofs.Calls.{own_stands}
 use Rattle.shared_store.proofs.Hands.{agrees_with}
-use Rattle.shared_store.proofs.Made.{memory_is, one_hand, took_further}
+use Rattle.shared_store.proofs.Made.{memory_is, one_hand, ready, took_further}
 use Rattle.shared_store.proofs.Thaws.{covers_same, imaged_there, row_parts, shard_same, still_covered, thaw_covered, thawed_behind}
 use Rattle.shared_store.proofs.Sessions.{session_is}
+use Rattle.shared_store.proofs.Calls.{all_events, ends_call, write_unshared}
+use Rattle.shared_store.proofs.Claims.{keeps_same, same_on}
+use Rattle.run_spec.specs.Told.{is_shared}
+use Rattle.store_laws.proofs.Lends.{no_image_told}
+use Rattle.store_laws.proofs.Stretches.{events_are_a_stretch}
 use Rattle.shared_store.proofs.Wrote.{writes_reply}
 
 -- ---- what may be made on the parts of a change
@@ -89,7 +95,7 @@ module _ (store : StoreView) (session : ℕ) (t : SeatView) (hands : HandsView) 
     may_write thawed few = record {
       session = session;
       own = own;
-      within = within;
+      within = ready store session t hands own (thawed_part shape write) change.thawless within;
       mine = change.mine;
       covers = covers;
       stands = change.stands now within.knows.opened;
@@ -98,17 +104,18 @@ module _ (store : StoreView) (session : ℕ) (t : SeatView) (hands : HandsView) 
     }
 
     -- the row's imaged block may be thawed on the parts that are held
-    pub may_thaw : (b : ℕ) → imaged_block shape place.table place.key now ≡ Some b → IsFew t.me.0 → MayMakeHeld store t hands (event.Thaw place.table b)
-    may_thaw b is few = record {
-      session = session;
-      own = own;
-      within = within;
-      mine = inr refl;
-      covers = thaw_covered shape (first_of hands) now agrees_here change.handed place.table place.key get_covered b is;
-      stands = tt;
-      fits = imaged_there shape (first_of hands) now agrees_here change.handed place.table place.key get_covered within.pass.of.1.sound b is;
-      few = few;
-    }
+    pub may_thaw : (b : ℕ) → imaged_block shape place.table place.key now ≡ Some b → IsFew t.me.0 → MayThawHeld store t hands place.table b
+    may_thaw b is few =
+        let there = imaged_there shape (first_of hands) now agrees_here change.handed place.table place.key get_covered within.pass.of.1.sound b is in
+        record {
+          session = session;
+          own = own;
+          within = within;
+          covers = thaw_covered shape (first_of hands) now agrees_here change.handed place.table place.key get_covered b is;
+          has = there.0;
+          imaged = there.1;
+          few = few;
+        }
 
 -- what a log with an entry more leaves
 parts_on : (sh : Shape) (parts : Parts) (log : List Logged) (entry : Logged)
@@ -180,7 +187,9 @@ module _ (store : StoreView) (session : ℕ) (own : Option OwnTransaction) (plac
         goes_on = made_on sh session (log_of t.me.0.log) (log_of u.me.0.log) write told m.makes;
         own = m.makes.own;
         count = m.count;
-        ends = (m.makes.before, m.makes.log);
+        ends = λ event'. (m.makes.before, m.makes.log);
+        reads = m.reads;
+        events = ap (λ b. not b && true) (write_unshared told (told_as_write (parts_after sh m.makes.before) told m.makes.reply));
         writes = λ change' is commits wrote has.
             change_along store session t u later (own_behind own write told) write told m.within m.makes commits wrote has place change' is
             (told_as_write (parts_after sh m.makes.before) told m.makes.reply);
@@ -196,6 +205,9 @@ module _ (store : StoreView) (session : ℕ) (own : Option OwnTransaction) (plac
 
         abbrev thawing : Occurrence
         thawing = occurrence_at session (parts_after sh n.makes.before) thaw thaw_told
+
+        thaw_unshared : is_shared thaw_told ≡ false
+        thaw_unshared = ap is_shared n.makes.reply ∙ no_image_told sh (parts_after sh n.makes.before) thaw (is_memory thaw_told) refl
 
         -- the thaw, for which there was no memory
         pub made_none : is_memory thaw_told ≡ true → ChangesHeld store session t u later own place write reply.Memory
@@ -214,7 +226,9 @@ module _ (store : StoreView) (session : ℕ) (own : Option OwnTransaction) (plac
             goes_on = made_on sh session (log_of t.me.0.log) (log_of u.me.0.log) thaw thaw_told n.makes;
             own = n.makes.own;
             count = n.count;
-            ends = (n.makes.before, n.makes.log);
+            ends = λ event'. (n.makes.before, n.makes.log);
+            reads = n.reads;
+            events = ap (λ b. not b && true) thaw_unshared;
             writes = λ change' asks commits wrote has. nothing_along store session t u later own thaw thaw_told n.within n.makes commits wrote has refl;
           };
           taken = n.taken;
@@ -243,7 +257,9 @@ module _ (store : StoreView) (session : ℕ) (own : Option OwnTransaction) (plac
                 own = m.makes.own ∙ ap (λ (os : List Occurrence). os ++ writing ∷ []) n.makes.own
                     ∙ append_assoc (own_in sh session (log_of t.me.0.log)) (thawing ∷ []) (writing ∷ []);
                 count = let one = n.count in let two = m.count in omega (arith, one, two);
-                ends = (m.makes.before, m.makes.log);
+                ends = λ event'. (m.makes.before, m.makes.log);
+                reads = same_on n.reads m.reads;
+                events = ap (λ b. not b && (not (is_shared told) && true)) thaw_unshared ∙ ap (λ b. not b && true) (write_unshared told (told_as_write (parts_after sh m.makes.before) told m.makes.reply));
                 writes = λ change' asks commits wrote has.
                     change_along store session u w last (own_behind own write told) write told m.within m.makes commits wrote
                     (nothing_along store session t u later own thaw thaw_told n.within n.makes commits wrote has refl) place change' asks
@@ -289,6 +305,8 @@ changed_whole store session s t u w hands later ended own place write told takes
             let c = ap (λ (es : List (Entry CoreEvent)). length es) takes.mine in
             omega (arith, a, b, c);
         ends = subst (λ (l : List (Entry CoreEvent)). EndsWithLast made (log_of l)) (sym gives.log) held.change.ends;
+        reads = same_on takes.sees.reads (same_on held.change.reads gives.reads);
+        events = held.change.events;
         writes = λ change' is commits wrote has.
             subst (λ (l : List (Entry CoreEvent)). HasOpenIn session (machine_after shape (log_of l)) commits (cond (is_written told) (insert_entry place_cmp wrote place change') wrote)) (sym gives.log)
             (held.change.writes change' is commits wrote
@@ -337,13 +355,13 @@ pub changed_call : (store : StoreView) (old new : Session) (place : Place) (writ
 changed_call store old new place write told asked line is m by tells = record {
   made = made;
   called = record {
-    goes_on = m.change.goes_on;
-    made = m.change.own;
+    stretch = events_are_a_stretch shape old.session (seen old) (seen new) made m.change.goes_on m.change.own m.change.events;
     is_call = subst (λ (o : Option OwnTransaction). IsCallBy shape false old.session o (refusal_of asked o) call) is.own
         (subst (λ (r : Option Said). IsCallBy shape false old.session (own_of old) r call) (sym by.granted) (go (is_memory told) refl));
   };
-  count = m.change.count;
-  ends = m.change.ends;
+  count = let all = all_events made m.change.events in let n = m.change.count in omega (arith, all, n);
+  ends = ends_call line made (seen new) m.change.ends;
+  reads = keeps_same m.change.reads;
   took = subst (λ (es : List CoreEvent). TookPartsOf shape es (seen old) (seen new) (taken_by old) (taken_by new)) (sym (by.events made)) m.took;
 }
   where
@@ -388,6 +406,7 @@ module _ (store : StoreView) (s : Session) (own : OwnTransaction) (is : IsSessio
   update_changes table row has fits = record {
     handed = own_key table (key_of row) own;
     mine = inl (ap Some (own_stands store s own is some').0);
+    thawless = refl;
     table = has;
     touches = λ held name. refl;
     stands = λ parts opened. keys st parts own table (key_of row) (subst (HasOpened st parts s.session) some' opened).1;
@@ -405,6 +424,7 @@ module _ (store : StoreView) (s : Session) (own : OwnTransaction) (is : IsSessio
   delete_changes table key has = record {
     handed = own_key table key own;
     mine = inl (ap Some (own_stands store s own is some').0);
+    thawless = refl;
     table = has;
     touches = λ held name. refl;
     stands = λ parts opened. keys st parts own table key (subst (HasOpened st parts s.session) some' opened).1;

@@ -39,6 +39,9 @@ use Rattle.shared_store.proofs.BlockReads.{holds_before}
 use Rattle.shared_store.proofs.Calls.{told_or_memory}
 use Rattle.shared_store.proofs.Scanned.{below_more, never, plain_cut, plain_cut_behind, plain_cut_ending, plain_granted, rest_of, went_call, went_more}
 use Rattle.shared_store.proofs.Swept.{block_more, sweeps_nothing, sweeps_on}
+use Rattle.shared_store.proofs.Claims.{keeps_same}
+use Rattle.store_laws.specs.Stretches.{is_event}
+use Rattle.std.proofs.lemmas.List.Sums.{count_by-le-length}
 
 -- ---- a look
 
@@ -108,10 +111,10 @@ went_wider store old new events more made w = record {
   session = w.session;
   same = w.same;
   opened = w.opened;
-  goes_on = w.goes_on;
-  own = w.own;
+  stretch = w.stretch;
   count = w.count;
   ends = w.ends;
+  reads = w.reads;
   took = record {
     parts = w.took.parts;
     took = w.took.took;
@@ -166,7 +169,7 @@ module _ (store : StoreView) (t : ℕ) where
   looks_on first mid new k look looks s m lt =
       subst (λ (es : List CoreEvent). Sweeps store asked (HaveLooked (looks ++ look_of k look ∷ [])) first new es) (block_more sh looking t k)
       (sweeps_on store asked (HaveLooked looks) (HaveLooked (looks ++ look_of k look ∷ [])) first mid new (map (looking t) (below k)) (looking t k) (reply.Looked look) s m
-      (is_asked k lt) refl refl (look_more k look looks first.session))
+      (is_asked k lt) refl refl refl (look_more k look looks first.session))
 
   -- ---- no memory
 
@@ -190,7 +193,7 @@ module _ (store : StoreView) (t : ℕ) where
   pub looks_lost : (old mid new : Session) (k : ℕ) (looks : List BlockLook) (told : CoreReply) → IsSession store old → k < blocks_of sh t → Looks store old mid t k looks
       → MakesAlone store mid new (looking t k) told → Answers store old new (Compact t) said.Memory
   looks_lost old mid new k looks told is lt s m = lost old new (k + 1) (s.made ++ last ∷ []) is (omega (arith, lt))
-      (went_more store old mid new (looking t k) told asked s.made s.went m.session m.same m.opened m.makes.makes m.makes.count m.makes.took (is_asked k lt))
+      (went_more store old mid new (looking t k) told asked s.made s.went m.session m.same m.opened m.makes.makes m.makes.count m.makes.took (is_asked k lt) refl (keeps_same m.makes.reads))
       (map-append (λ (o : Occurrence). o.event) s.made (last ∷ []) ∙ ap (λ (es : List CoreEvent). es ++ looking t k ∷ []) s.events_are ∙ block_more sh looking t k)
       (plain_cut_behind s.made last s.plain refl)
     where
@@ -224,7 +227,7 @@ module _ (store : StoreView) (t : ℕ) where
 
       went : Went store old new (asked ++ move ∷ []) made
       went = went_more store old mid new move told (asked ++ move ∷ []) s.made (went_wider store old mid asked (move ∷ []) s.made s.went) m.session m.same m.opened m.makes.makes m.makes.count m.makes.took
-          (among_last asked move)
+          (among_last asked move) refl (keeps_same m.makes.reads)
 
       planned_same : plan_of (looks_in made) ≡ pair ∷ pairs
       planned_same = ap plan_of (filter_map-append (λ (o : Occurrence). look_told o.event o.reply) s.made (last ∷ []) ∙ append-nil (looks_in s.made) ∙ sym s.told.looks_are) ∙ plan
@@ -292,15 +295,16 @@ all_added : {X : Type 0} (P : X → Type 0) (xs : List X) (x : X) → All P xs �
 all_added P [] x all here = All-cons P x [] here all
 all_added P (y ∷ ys) x all here = All-cons P y (ys ++ x ∷ []) (All-head P y ys all) (all_added P ys x (All-tail P y ys all) here)
 
--- each look is one event
-pub looks_count : (store : StoreView) (t k : ℕ) (old new : Session) (looks : List BlockLook) → Looks store old new t k looks → events_made new ≡ events_made old + k
+-- each look is one event at most
+pub looks_count : (store : StoreView) (t k : ℕ) (old new : Session) (looks : List BlockLook) → Looks store old new t k looks → events_made new ≤ events_made old + k
 looks_count store t k old new looks s =
     let a : length (events_in s.made) ≡ length s.made = length-map s.made (λ (o : Occurrence). o.event) in
     let b : length {A = CoreEvent} (map (looking t) (below k)) ≡ length (below k) = length-map (below k) (looking t) in
     let c : length (below k) ≡ k = length-range_with_len 0 k in
     let d = ap (λ (es : List CoreEvent). length es) s.events_are in
     let n = s.went.count in
-    omega (arith, a, b, c, d, n)
+    let few = count_by-le-length is_event s.made in
+    omega (arith, a, b, c, d, n, few)
 
 -- a table whose blocks were all looked at has the plan of what was seen, or memory lacked
 pub planned : {E : Type 0} (store : StoreView) (t : ℕ) (old new : Session) (looks : List BlockLook) (result : Result (List MovePair) E) → IsSession store old → HasTable (shape_in store) t

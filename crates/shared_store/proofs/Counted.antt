@@ -10,10 +10,10 @@ use Rattle.event_spec.specs.declared.reply.Reply.TheVariants as reply
 use Rattle.event_spec.specs.Parts.{Shape, slots_of}
 use Rattle.event_spec.specs.Replies.{CoreReply}
 use Rattle.run_spec.specs.Told.{is_shared, rows_told}
-use Rattle.shared_store.specs.Reading.{most_read, reply_of, rows_in}
+use Rattle.shared_store.specs.Reading.{most_seen, reply_of, rows_in}
 use Rattle.shared_store.specs.Scanning.{scan_cost}
-use Rattle.shared_store.specs.declared.reading.BlockRows.{BlockRows}
-use Rattle.shared_store.specs.declared.reading.BlockRows.TheVariants as block
+use Rattle.shared_store.specs.declared.reading.SeenBlock.{SeenBlock}
+use Rattle.shared_store.specs.declared.reading.SeenBlock.TheVariants as block
 
 -- ---- rows of slots
 
@@ -103,12 +103,12 @@ cost_frozen sh t told frozen =
     ∙ rows_one told
 
 -- a read of a block, and then each row that it told once
-pub read_costs : (E : Type 0) (sh : Shape) (t : ℕ) (read : BlockRows) (spent steps later : ℕ) → steps ≤ spent + most_read {E = E} sh t (Ok read) → later ≤ steps + length (rows_in read)
+pub read_costs : (E : Type 0) (sh : Shape) (t : ℕ) (read : SeenBlock) (spent steps later : ℕ) → steps ≤ spent + most_seen {E = E} sh t (Ok read) → later ≤ steps + length (rows_in read)
     → later ≤ spent + scan_cost sh t (reply_of {E = E} (Ok read) ∷ [])
 read_costs E sh t (block.Rows rows) spent steps later first then =
     subst (λ n. later ≤ spent + n) (sym (cost_loose sh t (reply.Rows rows) refl)) (sum_steps spent (slots_of sh t) (length rows) steps later first then)
-read_costs E sh t (block.Shared rows) spent steps later first then =
-    subst (λ n. later ≤ spent + n) (sym (cost_frozen sh t (reply.Shared rows) refl)) (bare_steps spent (length rows) steps later first then)
+read_costs E sh t (block.Lent lend) spent steps later first then =
+    subst (λ n. later ≤ spent + n) (sym (cost_frozen sh t (reply.Shared lend.rows) refl)) (bare_steps spent (length lend.rows) steps later first then)
 
 -- a read for which there was no memory
 pub unread_costs : (sh : Shape) (t : ℕ) (spent steps : ℕ) → steps ≤ spent + slots_of sh t → steps ≤ spent + scan_cost sh t (reply.Memory ∷ [])

@@ -13,7 +13,7 @@ use Rattle.core_laws.proofs.Frames.Looks.{look, name_self}
 use Rattle.hall_rule.specs.EventLog.{replay}
 use Rattle.hall_rule.specs.HallInvariant.{hands_of}
 use Rattle.hall_rule.specs.Hands.{Agrees, Covers, all_in}
-use Rattle.hall_steps.specs.Hall.{EachHand, IsPass, first_of}
+use Rattle.hall_steps.specs.Hall.{EachHand, IsPassAt, first_of}
 use Rattle.isolation_spec.specs.Contents.{key_of}
 use Rattle.key_index.specs.Candidates.{candidates_of}
 use Rattle.shared_store.specs.Store.{HandsView, SeatView, StoreView, shape_in}
@@ -25,7 +25,8 @@ first_has holds [] one each = absurd (omega (arith, one))
 first_has holds (hand ∷ hands) one each = each.0
 
 -- the parts in the hand of a pass that has one are those that its log leaves
-pub agrees_with : (store : StoreView) (seat : SeatView) (hands : HandsView) → IsPass (store_meaning (shape_in store)) store.id seat hands → hands_of seat.me.0 ≡ 1
+pub agrees_with : {thawing : ℕ} (store : StoreView) (seat : SeatView) (hands : HandsView)
+    → IsPassAt (store_meaning (shape_in store)) thawing store.id seat hands → hands_of seat.me.0 ≡ 1
     → Agrees (first_of hands) (replay (store_meaning (shape_in store)) seat.me.0.log)
 agrees_with store seat hands is one = (
   first_has (λ hand. length hand ≡ length (store_meaning (shape_in store)).start) hands (is.count ∙ one) is.places ∙ sym is.of.1.room,

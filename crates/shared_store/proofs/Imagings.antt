@@ -19,7 +19,9 @@ use Rattle.event_spec.specs.Touched.{touching}
 use Rattle.core_laws.proofs.Frames.Looks.{look, name_self}
 use Rattle.core_laws.specs.Frames.Shards.{CoreHolds}
 use Rattle.hall_rule.specs.Hands.{Agrees, Covers}
-use Rattle.hall_steps.specs.Hall.{first_of}
+use Rattle.hall_steps.specs.Hall.{SameClaim, first_of}
+use Rattle.shared_store.proofs.Claims.{keeps_same, same_on}
+use Rattle.store_laws.proofs.Stretches.{nothing_is_a_stretch}
 use Rattle.run_spec.specs.Asked.{rows_sealed}
 use Rattle.shared_store.specs.Freezing.{Imaged as ImagedAny, ImagedHeld, Images, ImagesHeld, IsImageThere, MakesNone, MayImageHeld, imaging}
 use Rattle.shared_store.specs.Making.{Gives, Makes, MayMakeHeld, Takes, parts_seen}
@@ -45,7 +47,7 @@ image_is image body (Sealed stamp) at is = is ∙ sym (ap (λ p. cond (is_sealed
 image_is image body (Imaged stamp) at is = is ∙ sym (ap (λ p. cond (is_sealed p) (Some (rows_of body)) None) at)
 
 -- the block's body is in the hand
-body_here : (sh : Shape) (hand : List (Option CorePart)) (s : Parts) (t b : ℕ) → Covers (touching sh (imaging t b None)) hand → Agrees hand s → CoreHolds sh s → HasBlock sh t b
+pub body_here : (sh : Shape) (hand : List (Option CorePart)) (s : Parts) (t b : ℕ) → Covers (touching sh (imaging t b None)) hand → Agrees hand s → CoreHolds sh s → HasBlock sh t b
     → Has sh hand (BodyOf t b)
 body_here sh hand s t b covers agrees holds has =
     subst (IsOfKind (BodyOf t b)) (sym (look sh (imaging t b None) hand s (BodyOf t b) covers agrees (name_self (BodyOf t b))))
@@ -157,6 +159,7 @@ imaged_all store session s t u w hands later ended own table block None takes he
         goes_on = subst (λ (l : List (Entry CoreEvent)). GoesOn (log_of s.me.0.log) (log_of l)) (sym log) takes.sees.goes_on;
         same = subst (λ (l : List (Entry CoreEvent)). own_in (shape_in store) session (log_of l) ≡ own_in (shape_in store) session (log_of s.me.0.log)) (sym log) takes.sees.same;
         knows = gives.stands.within.knows;
+        reads = same_on takes.sees.reads (subst (λ (x : SeatView). SameClaim x.me.0 w.me.0) held.same_seat gives.reads);
       };
       mine = gives.mine ∙ ap (λ (x : SeatView). x.me.0.mine) held.same_seat ∙ takes.mine;
       took = subst (λ later. TookPartsOf (shape_in store) (imaging table block None ∷ []) (log_of s.me.0.log) (log_of w.me.0.log) s.me.0.taken later)
@@ -171,7 +174,7 @@ pub gathered_whole : (store : StoreView) (s new : Session) (table block : ℕ) (
     → Images store s.session s.pass.seat new.pass.seat new.pass.hands (own_of s) table block told → new.session ≡ s.session → own_of new ≡ own_of s
     → TellsLine (own_of s) (Gather table block) told line → IsSession store new × Answers store s new (Gather table block) line
 gathered_whole store s new table block told line is images same opened tells =
-    one_event_at store s new (Gather table block) (imaging table block images.image) told line is images.makes same opened refl
+    one_event_at store s new (Gather table block) (imaging table block images.image) told line is refl images.makes same opened refl
     (ap (λ image. imaging table block image ∷ []) (sym images.there)) tells
 
 -- a gathering that made no event for want of memory answers so
@@ -184,12 +187,12 @@ gathered_none store s new table block is none same opened = (
   record {
     made = [];
     called = record {
-      goes_on = none.sees.goes_on;
-      made = none.sees.same ∙ sym (append-nil (own_in (shape_in store) s.session (seen s)));
+      stretch = nothing_is_a_stretch (shape_in store) s.session (seen s) (seen new) none.sees.goes_on none.sees.same;
       is_call = (unmade_call (shape_in store) s.session (seen s) (own_of s) is.own (Gather table block) refl refl).is_call;
     };
     count = let m = ap (λ (es : List (Entry CoreEvent)). length es) none.mine in omega (arith, m);
     ends = tt;
+    reads = keeps_same none.sees.reads;
     took = none.took;
   },
 )

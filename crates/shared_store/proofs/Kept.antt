@@ -19,7 +19,7 @@ use Rattle.event_spec.specs.Touched.{is_shard_in, passes_test, touched, touching
 use Rattle.core_laws.proofs.Frames.Looks.{got_among, name_self, true_false}
 use Rattle.hall_rule.proofs.Lists.{by_cases, get_set_else, get_set_here}
 use Rattle.hall_rule.specs.Hands.{Covers, Holds, IsAboveAll, SameRoom}
-use Rattle.hall_steps.specs.Hall.{EachHand, Knows, first_of, spares_of}
+use Rattle.hall_steps.specs.Hall.{EachHand, Knows, Settled, first_of, spares_of}
 use Rattle.hall_steps.proofs.Knowing.{same_holds}
 use Rattle.store_laws.specs.Logs.{store_meaning}
 use Rattle.shared_store.specs.Keeping.{IsOnBlock, Keeps, beside_observe, beside_prune, emptied, is_low, rested_hands, rested_seat}
@@ -157,6 +157,18 @@ module _ (store : StoreView) (session : ℕ) (seat : SeatView) (hands : HandsVie
     budget = k.budget;
     limit = k.limit;
     tied = k.tied;
+    wide = k.wide;
+    no_bump = k.no_bump;
+    claims = k.claims;
+    imaged = k.imaged;
+  }
+
+  -- It is about to thaw none.
+  rested_settled : Settled (store_meaning (shape_in store)) 0 (rested_seat seat).me (first_of (rested_hands hands))
+  rested_settled = record {
+    worn = λ i p other at. absurd (none_in_first hands i (p, at));
+    hot = λ i p same at. absurd (none_in_first hands i (p, at));
+    drained = is.pass.of.2.drained;
   }
 
   -- A pass is one that holds no part, as if it had given back all that it holds.
@@ -164,7 +176,7 @@ module _ (store : StoreView) (session : ℕ) (seat : SeatView) (hands : HandsVie
   rested_at = record {
     within = record {
       pass = record {
-        of = (is.pass.of.0, rested_knows);
+        of = (is.pass.of.0, rested_knows, rested_settled);
         count = length-map hands emptied ∙ is.pass.count;
         places = rested_places (length (store_meaning (shape_in store)).start) hands is.pass.places;
         spares = rested_spares hands;

@@ -30,6 +30,8 @@ use Rattle.shared_store.specs.Building.{IsNewRow, IsNewSession}
 use Rattle.shared_store.specs.declared.session.Session.{Session}
 use Rattle.shared_store.proofs.Hands.{agrees_with}
 use Rattle.shared_store.proofs.Made.{one_hand}
+use Rattle.store_laws.specs.Stretches.{is_event}
+use Rattle.std.proofs.lemmas.List.Sums.{count_by-le-length}
 
 -- ---- few events
 
@@ -59,7 +61,8 @@ few_made n store old new command told few answers =
     let call : Call = record { command = command; made = answers.made; told = Some told } in
     let made : length answers.made ≤ n = call_few n (shape_in store) old.session own (refusal_of command own) call (few own) answers.called.is_call in
     let count = answers.count in
-    omega (arith, made, count)
+    let events = count_by-le-length is_event answers.made in
+    omega (arith, made, count, events)
 
 -- What a transaction makes by one event is one at most, whether one is open or not.
 one_event : (o : Option OwnTransaction) (event : OwnTransaction → CoreEvent) → length (by_own o (λ t. event t ∷ [])) ≤ 1

@@ -27,3 +27,9 @@ pub mod Wrote
 pub mod Open
 pub mod Along
 pub mod Stays
+pub mod Claims
+pub mod Lent
+pub mod Drained
+pub mod Seeing
+pub mod GivenBack
+pub mod Ending

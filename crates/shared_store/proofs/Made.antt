@@ -4,6 +4,7 @@ use mathlib.Core.Logic.{inl, inr}
 use Rattle.std.specs.Prelude.{MatchBool}
 use Rattle.std.proofs.lemmas.List.{length-map}
 use Rattle.engine_core.specs.Core.{is_memory}
+use Rattle.core_laws.specs.Words.Words.{thawed_part}
 use Rattle.event_spec.specs.declared.own.OwnTransaction.{OwnTransaction}
 use Rattle.event_spec.specs.declared.reply.Reply.TheVariants as reply
 use Rattle.event_spec.specs.Effects.{CoreEvent}
@@ -20,7 +21,7 @@ use Rattle.hall_rule.specs.Views.{entry_of, with_hand_of}
 use Rattle.hall_rule.specs.declared.view.Entry.{Entry}
 use Rattle.hall_rule.specs.declared.view.View.{View}
 use Rattle.hall_rule.proofs.Logs.{has_head, lawful_rest, replay_append}
-use Rattle.hall_steps.specs.Hall.{Extends, EndsWith, IsPass, IsSameSeat, Knows, SeesMore, TookParts, first_of}
+use Rattle.hall_steps.specs.Hall.{Extends, EndsWith, IsPass, IsSameSeat, Knows, SeesMore, TookParts, first_of, thawed_by}
 use Rattle.run_spec.specs.Calls.{is_memory as lacks_memory}
 use Rattle.run_spec.specs.Opened.{own_behind}
 use Rattle.store_laws.specs.Laws.{IsOfSession, Replied, SeesOn}
@@ -39,8 +40,9 @@ use Rattle.run_spec.specs.Opened.{own_after}
 use Rattle.store_laws.specs.OwnLaws.{HasOpened}
 use Rattle.hall_rule.specs.Hands.{Agrees, Covers, SameRoom, all_in}
 use Rattle.shared_store.specs.Making.{FitsEach, Gives, IsFew, Makes, MakesHeld, MayMake, MayMakeHeld, OldestLasts, Takes, parts_seen}
-use Rattle.shared_store.specs.Store.{HandsView, IsStore, IsWithin, SeatView, StoreView, TookPartsOf, shape_in}
+use Rattle.shared_store.specs.Store.{HandsView, IsStore, IsWithin, IsWithinAt, SeatView, StoreView, TookPartsOf, shape_in}
 use Rattle.shared_store.proofs.Hands.{agrees_with, touching_whole}
+use Rattle.shared_store.proofs.Claims.{same_on}
 
 -- both tests of a reply are one
 pub memory_same : (told : CoreReply) → is_memory told ≡ lacks_memory told
@@ -96,44 +98,46 @@ replied_of Q shape parts e told m = go (lacks_memory told) refl (subst (λ b. Ma
 
 -- ---- what a pass knows
 
-module _ (store : StoreView) (session : ℕ) (seat : SeatView) (hands : HandsView) (own : Option OwnTransaction) (is : IsWithin store session seat hands own) where
-  -- A session's pass knows what it must of its log and its hand.
-  knows_of : Knows (store_meaning (shape_in store)) seat.id seat.me (first_of hands)
-  knows_of = is.pass.of.1
+module _ {thawing : ℕ} (store : StoreView) (session : ℕ) (seat : SeatView) (hands : HandsView) (own : Option OwnTransaction)
+    (is : IsWithinAt thawing store session seat hands own)
+  where
+    -- A session's pass knows what it must of its log and its hand.
+    knows_of : Knows (store_meaning (shape_in store)) seat.id seat.me (first_of hands)
+    knows_of = is.pass.of.1
 
-  -- a session's pass has one hand
-  pub one_hand : hands_of seat.me.0 ≡ 1
-  one_hand = ap (λ (qs : List ℕ). length qs) is.knows.sessions
+    -- a session's pass has one hand
+    pub one_hand : hands_of seat.me.0 ≡ 1
+    one_hand = ap (λ (qs : List ℕ). length qs) is.knows.sessions
 
-  -- a session's pass has this session
-  pub in_sessions : has session seat.me.0.sessions ≡ true
-  in_sessions = ap (has session) is.knows.sessions ∙ has_head session []
+    -- a session's pass has this session
+    pub in_sessions : has session seat.me.0.sessions ≡ true
+    in_sessions = ap (has session) is.knows.sessions ∙ has_head session []
 
-  -- one stamp is left at least
-  pub stamp_left : IsStore store → IsFew seat.me.0 → (desk_at (shape_in store) (parts_seen (shape_in store) seat.me.0)).newest + 1 < 2 ^ 63
-  stamp_left is_store few =
-      let one = one_hand in
-      let budget = knows_of.budget in
-      let limit = knows_of.limit in
-      let parts : (desk_at (shape_in store) (parts_seen (shape_in store) seat.me.0)).newest ≡ (desk_at (shape_in store) (parts_after (shape_in store) (log_of seat.me.0.log))).newest =
-      ap (λ (x : Parts). (desk_at (shape_in store) x).newest) (replay_same (shape_in store) seat.me.0.log) in
-      let stamps = stamps_are_few (shape_in store) (log_of seat.me.0.log) is_store.opening.measures (lawful_same (shape_in store) seat.me.0.log knows_of.lawful) in
-      let long : length (log_of seat.me.0.log) ≡ length seat.me.0.log = length-map seat.me.0.log logged_of in
-      omega (arith, few, one, budget, limit, parts, stamps, long)
+    -- one stamp is left at least
+    pub stamp_left : IsStore store → IsFew seat.me.0 → (desk_at (shape_in store) (parts_seen (shape_in store) seat.me.0)).newest + 1 < 2 ^ 63
+    stamp_left is_store few =
+        let one = one_hand in
+        let budget = knows_of.budget in
+        let limit = knows_of.limit in
+        let parts : (desk_at (shape_in store) (parts_seen (shape_in store) seat.me.0)).newest ≡ (desk_at (shape_in store) (parts_after (shape_in store) (log_of seat.me.0.log))).newest =
+        ap (λ (x : Parts). (desk_at (shape_in store) x).newest) (replay_same (shape_in store) seat.me.0.log) in
+        let stamps = stamps_are_few (shape_in store) (log_of seat.me.0.log) is_store.opening.measures (lawful_same (shape_in store) seat.me.0.log knows_of.lawful) in
+        let long : length (log_of seat.me.0.log) ≡ length seat.me.0.log = length-map seat.me.0.log logged_of in
+        omega (arith, few, one, budget, limit, parts, stamps, long)
 
-  -- an event of the session names one of the pass's
-  pub named_there : (e : CoreEvent) → IsOfSession session e → (q : ℕ) → session_of e ≡ Some q → has q seat.me.0.sessions ≡ true
-  named_there e mine q of = go mine
-    where
-      some_is : (a b : ℕ) → Some a ≡ Some b → a ≡ b
-      some_is a b x = cc
+    -- an event of the session names one of the pass's
+    pub named_there : (e : CoreEvent) → IsOfSession session e → (q : ℕ) → session_of e ≡ Some q → has q seat.me.0.sessions ≡ true
+    named_there e mine q of = go mine
+      where
+        some_is : (a b : ℕ) → Some a ≡ Some b → a ≡ b
+        some_is a b x = cc
 
-      none_is : (a : ℕ) → None ≡ Some a → ⊥
-      none_is a x = cc
+        none_is : (a : ℕ) → None ≡ Some a → ⊥
+        none_is a x = cc
 
-      go : IsOfSession session e → has q seat.me.0.sessions ≡ true
-      go (inl mine) = ap (λ r. has r seat.me.0.sessions) (some_is q session (sym of ∙ mine)) ∙ in_sessions
-      go (inr unnamed) = absurd (none_is q (sym unnamed ∙ of))
+        go : IsOfSession session e → has q seat.me.0.sessions ≡ true
+        go (inl mine) = ap (λ r. has r seat.me.0.sessions) (some_is q session (sym of ∙ mine)) ∙ in_sessions
+        go (inr unnamed) = absurd (none_is q (sym unnamed ∙ of))
 
 -- ---- taking
 
@@ -159,7 +163,7 @@ module _ (store : StoreView) (s t : SeatView) (held hands : HandsView) (e : Core
 
     -- it stands in the log that was seen since
     still : (other : CoreEvent) → IsOfSession session other → Stands sh other (parts_seen sh s.me.0) → Stands sh other (parts_seen sh t.me.0)
-    still other mine stands = (has_laws sh (opening sh) sh.passes 0).depends other (parts_seen sh s.me.0) (parts_seen sh t.me.0) within.pass.of.1.sound knows_t.sound
+    still other mine stands = (has_laws sh (opening sh) sh.passes).depends other (parts_seen sh s.me.0) (parts_seen sh t.me.0) within.pass.of.1.sound knows_t.sound
         (λ q is. same mine q is) (λ f known. sees.stays.facts f known) stands
       where
         some_is : (a b : ℕ) → Some a ≡ Some b → a ≡ b
@@ -225,7 +229,7 @@ module _ (store : StoreView) (is_store : IsStore store) (t u : SeatView) (hands 
     (before : List (Entry CoreEvent))
     (extends : Extends (store_meaning (shape_in store)) t before (entry_of t.id t.me.0 (is_memory told) e) u)
     (Q : Type 0) (said : MatchBool (is_memory told) Q (told ≡ reply_to (shape_in store) (replay (store_meaning (shape_in store)) before) e))
-    (session : ℕ) (own : Option OwnTransaction) (within : IsWithin store session t hands own) (mine : IsOfSession session e)
+    (thawing session : ℕ) (own : Option OwnTransaction) (within : IsWithinAt thawing store session t hands own) (mine : IsOfSession session e)
   where
     abbrev shape : Shape
     shape = shape_in store
@@ -259,7 +263,7 @@ module _ (store : StoreView) (is_store : IsStore store) (t u : SeatView) (hands 
 
         go : (b : Bool) → IsOldest shape stamp parts → IsOldest shape stamp (after shape parts (record { event = e; refused = b }))
         go true old = old
-        go false old = (has_laws shape (opening shape) shape.passes 0).outlives e stamp parts ends.learned.sound lawful_entry.0 lawful_entry.1 old
+        go false old = (has_laws shape (opening shape) shape.passes).outlives e stamp parts ends.learned.sound lawful_entry.0 lawful_entry.1 old
 
     -- the parts in the hand are those that the log before the event leaves
     before_is : went.0.before ≡ log_of before
@@ -283,10 +287,22 @@ module _ (store : StoreView) (is_store : IsStore store) (t u : SeatView) (hands 
       taken = ends.taken;
       room = room;
       agrees = subst (Agrees (first_of hands)) (replay_same shape before ∙ ap (parts_after shape) (sym before_is)) agreed;
+      reads = ends.reads;
       lasting = lasts;
     }
 
 -- ---- giving back
+
+-- a view with the log and the sessions of another knows what that knows
+pub knows_same : (sh : Shape) (session : ℕ) (v w : View CoreEvent) (own : Option OwnTransaction)
+    → w.log ≡ v.log → w.sessions ≡ v.sessions → w.sole ≡ v.sole → KnowsOwn sh session v own → KnowsOwn sh session w own
+knows_same sh session v w own log sessions sole knows = record {
+  sessions = sessions ∙ knows.sessions;
+  sole = ap (has session) sole ∙ knows.sole;
+  under = subst (λ (l : List (Entry CoreEvent)). StandsUnder session (log_of l)) (sym log) knows.under;
+  own_is = knows.own_is ∙ ap (λ (l : List (Entry CoreEvent)). own_after (own_in sh session (log_of l))) (sym log);
+  opened = subst (λ (l : List (Entry CoreEvent)). HasOpened sh (replay (store_meaning sh) l) session own) (sym log) knows.opened;
+}
 
 -- a pass that gave back all that it held knows what it knew
 pub gave_back : (store : StoreView) (session : ℕ) (u w : SeatView) (hands later : HandsView) (own : Option OwnTransaction)
@@ -299,19 +315,14 @@ gave_back store session u w hands later own within left view empty =
       stands = record {
         within = record {
           pass = left;
-          knows = record {
-            sessions = ap (λ (v : View CoreEvent). v.sessions) view ∙ within.knows.sessions;
-            sole = ap (λ (v : View CoreEvent). has session v.sole) view ∙ within.knows.sole;
-            under = subst (λ (l : List (Entry CoreEvent)). StandsUnder session (log_of l)) (sym log) within.knows.under;
-            own_is = within.knows.own_is ∙ ap (λ (l : List (Entry CoreEvent)). own_after (own_in (shape_in store) session (log_of l))) (sym log);
-            opened = subst (λ (l : List (Entry CoreEvent)). HasOpened (shape_in store) (replay (store_meaning (shape_in store)) l) session own) (sym log) within.knows.opened;
-          };
+          knows = knows_same (shape_in store) session u.me.0 w.me.0 own log (ap (λ (v : View CoreEvent). v.sessions) view) (ap (λ (v : View CoreEvent). v.sole) view) within.knows;
         };
         empty = empty;
       };
       log = log;
       mine = ap (λ (v : View CoreEvent). v.mine) view;
       taken = ap (λ (v : View CoreEvent). v.taken) view;
+      reads = (ap (λ (v : View CoreEvent). v.claim) view, ap (λ (v : View CoreEvent). v.claimed) view);
     }
 
 -- ---- all together
@@ -327,16 +338,21 @@ took_further _ events old mid new taken later took on = record {
       record { event = t.event; is_one = t.is_one; log = t.log; saw = t.saw; left = goes_far t.log mid new t.left on; touches = t.touches };
 }
 
+-- a pass that thaws nothing is ready for an event that thaws nothing
+pub ready : (store : StoreView) (session : ℕ) (t : SeatView) (hands : HandsView) (own : Option OwnTransaction) (thawed : Option ℕ)
+    → thawed ≡ None → IsWithin store session t hands own → IsWithinAt (thawed_by thawed) store session t hands own
+ready store session t hands own thawed none within = subst (λ (o : Option ℕ). IsWithinAt (thawed_by o) store session t hands own) (sym none) within
+
 -- an event that its pass takes the parts for may be made on them
 pub may_make_taken : (store : StoreView) (is_store : IsStore store) (s t : SeatView) (hands : HandsView) (e : CoreEvent) (session : ℕ) (own : Option OwnTransaction)
-    → IsOfSession session e → Stands (shape_in store) e (parts_seen (shape_in store) s.me.0) → FitsEach (shape_in store) e → IsFew s.me.0
+    → IsOfSession session e → thawed_part (shape_in store) e ≡ None → Stands (shape_in store) e (parts_seen (shape_in store) s.me.0) → FitsEach (shape_in store) e → IsFew s.me.0
     → Takes store session s t hands own e → MayMakeHeld store t hands e
-may_make_taken store is_store s t hands e session own mine stands fits few takes =
+may_make_taken store is_store s t hands e session own mine thawless stands fits few takes =
     let left : IsFew t.me.0 = let m = ap (λ (es : List (Entry CoreEvent)). length es) takes.mine in omega (arith, few, m) in
     record {
       session = session;
       own = own;
-      within = takes.within;
+      within = ready store session t hands own (thawed_part (shape_in store) e) thawless takes.within;
       mine = mine;
       covers = takes.covers;
       stands = takes.stands e mine stands;
@@ -348,7 +364,7 @@ may_make_taken store is_store s t hands e session own mine stands fits few takes
 pub may_make_held : (store : StoreView) (is_store : IsStore store) (s t : SeatView) (held hands : HandsView) (e : CoreEvent)
     → (may : MayMake store s held e) → Takes store may.session s t hands may.own e → MayMakeHeld store t hands e
 may_make_held store is_store s t held hands e may takes =
-    may_make_taken store is_store s t hands e may.session may.own may.mine may.stands may.fits may.few takes
+    may_make_taken store is_store s t hands e may.session may.own may.mine may.thawless may.stands may.fits may.few takes
 
 -- an event is whole once its parts were taken, it was made on them, and they were given back
 pub made_whole : (store : StoreView) (session : ℕ) (s t u w : SeatView) (hands later ended : HandsView) (own : Option OwnTransaction) (e : CoreEvent) (told : CoreReply)
@@ -368,6 +384,7 @@ made_whole store session s t u w hands later ended own e told takes held gives =
       (subst (λ (l : List (Entry CoreEvent)). TookPartsOf (shape_in store) (e ∷ []) (log_of s.me.0.log) (log_of l) s.me.0.taken t.me.0.taken) (sym gives.log)
       (took_further (shape_in store) (e ∷ []) (log_of s.me.0.log) (log_of t.me.0.log) (log_of u.me.0.log) s.me.0.taken t.me.0.taken takes.took
       (made_on (shape_in store) session (log_of t.me.0.log) (log_of u.me.0.log) e told held.makes)));
+  reads = same_on takes.sees.reads (same_on held.reads gives.reads);
   lasting = λ stamp known. subst (λ (l : List (Entry CoreEvent)). IsOldest (shape_in store) stamp (replay (store_meaning (shape_in store)) l)) (sym gives.log)
       (held.lasting stamp (takes.lasting stamp known));
 }

@@ -24,13 +24,15 @@ use Rattle.store_laws.specs.Logs.{log_of, store_meaning}
 use Rattle.store_laws.specs.Own.{StandsUnder, parts_after}
 use Rattle.shared_store.specs.Keeping.{GivesPart, IsKeeping, IsOnBlock, Keeps, MakesAnyKeeping, MakesKeeping, rested, rested_hands, rested_seat}
 use Rattle.shared_store.specs.Making.{Gives, Makes, MakesHeld, Takes}
-use Rattle.shared_store.specs.Store.{EndsWithLast, HandsView, IsAt, IsSession, IsWithin, SeatView, StoreView, TookPartsOf, own_of, seen, shape_in, taken_by}
+use Rattle.shared_store.specs.Store.{EndsWithLast, HandsView, IsAt, IsSession, IsWithin, KeepsLend, SeatView, StoreView, TookPartsOf, own_of, seen, shape_in, taken_by}
 use Rattle.shared_store.specs.Sweeping.{MakesAlone, Sweeps, SweepsMore}
 use Rattle.shared_store.specs.declared.session.Session.{Session}
 use Rattle.shared_store.proofs.Kept.{body_touched, covers_with, hand_room, keeps_without, rested_at}
 use Rattle.shared_store.proofs.Made.{made_whole, taken_parts}
 use Rattle.shared_store.proofs.Sessions.{session_is}
 use Rattle.shared_store.proofs.Swept.{made_alone}
+use Rattle.shared_store.proofs.Claims.{keeps_on, keeps_same, keeps_stays, same_on}
+use Rattle.run_spec.specs.Handed.{Stretch}
 
 -- ---- taking
 
@@ -62,6 +64,7 @@ taken_anew store session s m t mid later own e gives takes = record {
     goes_on = subst (λ (l : List (Entry CoreEvent)). GoesOn (log_of l) (log_of t.me.0.log)) gives.log takes.sees.goes_on;
     same = takes.sees.same ∙ ap (λ (l : List (Entry CoreEvent)). own_in (shape_in store) session (log_of l)) gives.log;
     knows = takes.sees.knows;
+    reads = same_on gives.reads takes.sees.reads;
   };
   mine = takes.mine ∙ gives.mine;
   covers = takes.covers;
@@ -95,6 +98,7 @@ gave_part store session part u w hands later own within left view =
       log = log;
       mine = ap (λ (v : View CoreEvent). v.mine) view;
       taken = ap (λ (v : View CoreEvent). v.taken) view;
+      reads = (ap (λ (v : View CoreEvent). v.claim) view, ap (λ (v : View CoreEvent). v.claimed) view);
     }
 
 -- ---- all together
@@ -112,6 +116,7 @@ made_keeping store session common table block body s t u w hands mid later own e
     log = gives.log;
     mine = gives.mine;
     taken = gives.taken;
+    reads = gives.reads;
   });
   keeps = keeps_without (shape_in store) common table block body e at on (first_of hands) (first_of mid) (first_of later)
       (hand_room store session t hands own takes.within) takes.covers only held.room is;
@@ -159,6 +164,7 @@ alone_kept store common old new e told said m is same opened stays = made_alone 
       refuses = m.makes.refuses;
       count = m.makes.count;
       took = m.makes.took;
+      reads = m.makes.reads;
       lasting = m.makes.lasting;
     }
 
@@ -173,19 +179,20 @@ given_session store mid new same opened gives = session_is store new
 pub sweeps_same : (store : StoreView) (asked : List CoreEvent) (tells : List Occurrence → Type 0) (first mid new : Session) (events : List CoreEvent)
     → Sweeps store asked tells first mid events → IsSession store new → new.session ≡ mid.session → own_of new ≡ own_of mid
     → new.pass.seat.me.0.log ≡ mid.pass.seat.me.0.log → new.pass.seat.me.0.mine ≡ mid.pass.seat.me.0.mine → new.pass.seat.me.0.taken ≡ mid.pass.seat.me.0.taken
+    → KeepsLend mid.pass.seat.me.0 new.pass.seat.me.0
     → Sweeps store asked tells first new events
-sweeps_same store asked tells first mid new events s is same opened log mine taken = record {
+sweeps_same store asked tells first mid new events s is same opened log mine taken reads = record {
   made = s.made;
   went = record {
     session = is;
     same = same ∙ s.went.same;
     opened = opened ∙ s.went.opened;
-    goes_on = subst (λ (l : List (Entry CoreEvent)). GoesOn (seen first) (log_of l)) (sym log) s.went.goes_on;
-    own = subst (λ (l : List (Entry CoreEvent)). own_in (shape_in store) first.session (log_of l) ≡ own_in (shape_in store) first.session (seen first) ++ s.made) (sym log) s.went.own;
+    stretch = subst (λ (l : List (Entry CoreEvent)). Stretch (shape_in store) first.session (seen first) (log_of l) s.made) (sym log) s.went.stretch;
     count = ap (λ (es : List (Entry CoreEvent)). length es) mine ∙ s.went.count;
     ends = subst (λ (l : List (Entry CoreEvent)). EndsWithLast s.made (log_of l)) (sym log) s.went.ends;
     took = subst (λ (ts : List ℕ). TookPartsOf (shape_in store) asked (seen first) (seen new) (taken_by first) ts) (sym taken)
         (subst (λ (l : List (Entry CoreEvent)). TookPartsOf (shape_in store) asked (seen first) (log_of l) (taken_by first) (taken_by mid)) (sym log) s.went.took);
+    reads = keeps_on s.went.reads reads;
   };
   events_are = s.events_are;
   plain = s.plain;
@@ -198,7 +205,7 @@ module _ (store : StoreView) (asked : List CoreEvent) (tells : ℕ → List Occu
       → IsWithin store new.session new.pass.seat new.pass.hands (own_of new) → SweepsMore store asked tells old (rested new) events count
   sweeps_rested old new events count so within first front before s =
       sweeps_same store asked (tells (before + count)) first new (rested new) (front ++ events) (so first front before s)
-      (rested_session store new within) refl refl refl refl refl
+      (rested_session store new within) refl refl refl refl refl (record { claim = refl; claimed = λ some. refl })
 
   -- and when it did
   pub sweeps_given : (old mid new : Session) (events : List CoreEvent) (count : ℕ) → SweepsMore store asked tells old (rested mid) events count
@@ -206,4 +213,4 @@ module _ (store : StoreView) (asked : List CoreEvent) (tells : ℕ → List Occu
       → SweepsMore store asked tells old new events count
   sweeps_given old mid new events count so same opened gives first front before s =
       sweeps_same store asked (tells (before + count)) first (rested mid) new (front ++ events) (so first front before s)
-      (given_session store mid new same opened gives) same opened gives.log gives.mine gives.taken
+      (given_session store mid new same opened gives) same opened gives.log gives.mine gives.taken (keeps_same gives.reads)

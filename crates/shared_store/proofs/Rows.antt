@@ -100,15 +100,16 @@ pub record IsNewPass (store : StoreView) (session : ℕ) (seat : SeatView) (hand
   pub mine : seat.me.0.mine ≡ []
   pub none : own_in (shape_in store) session (log_of seat.me.0.log) ≡ []
   pub taken : seat.me.0.taken ≡ []
+  pub free : seat.me.0.claim ≡ 0
 
 -- A pass that has one session, under which no entry stands, and made no event.
 new_pass : (store : StoreView) (session : ℕ) (seat : SeatView) (hands : HandsView)
     → IsPass (store_meaning (shape_in store)) store.id seat hands → ((part : ℕ) → ¬ Holds (first_of hands) part)
-    → seat.me.0.sessions ≡ session ∷ [] → has session seat.me.0.sole ≡ true → seat.me.0.mine ≡ [] → seat.me.0.taken ≡ []
+    → seat.me.0.sessions ≡ session ∷ [] → has session seat.me.0.sole ≡ true → seat.me.0.mine ≡ [] → seat.me.0.taken ≡ [] → seat.me.0.claim ≡ 0
     → StandsUnder session (log_of seat.me.0.log)
     → transaction (shape_in store) (replay (store_meaning (shape_in store)) seat.me.0.log) session ≡ None
     → IsNewPass store session seat hands
-new_pass store session seat hands pass empty sessions sole mine taken under rests = record {
+new_pass store session seat hands pass empty sessions sole mine taken free under rests = record {
   stands = record {
     within = record {
       pass = pass;
@@ -119,6 +120,7 @@ new_pass store session seat hands pass empty sessions sole mine taken under rest
   mine = mine;
   none = no_events (shape_in store) session seat.id seat.me (first_of hands) pass.of.1 sessions sole mine under rests;
   taken = taken;
+  free = free;
 }
 
 -- a session of a pass without entries is fresh
@@ -150,6 +152,7 @@ module _ (store : StoreView) (number n : ℕ) (s t u : SeatView) (hands held giv
       few = let few = before.few in omega (arith, few, is);
       mine = ap (λ (v : View CoreEvent). v.mine) deal ∙ before.mine;
       taken = ap (λ (v : View CoreEvent). v.taken) deal ∙ before.taken;
+      free = ap (λ (v : View CoreEvent). v.claim) deal ∙ before.free;
       under = λ session. subst (λ (v : View CoreEvent). StandsUnder session (log_of v.log)) (sym deal) (before.under session);
       rests = λ session. ap (λ (v : View CoreEvent). transaction (shape_in store) (replay (store_meaning (shape_in store)) v.log) session) deal ∙ before.rests session;
     }
@@ -167,7 +170,7 @@ module _ (store : StoreView) (number n : ℕ) (s t u : SeatView) (hands held giv
     pub given_is_new : IsNewPass store number u given
     given_is_new = new_pass store number u given pass empty is_new.hands
         (ap (has number) is_new.sole ∙ fresh_has s.me.0 number had before.mine)
-        is_new.mine is_new.taken
+        is_new.mine is_new.taken is_new.free
         (under_on (shape_in store) number s.me.0.log u.me.0.log is_new.stays.goes_on (before.under number)
         (is_new.stays.spared number (has_head number [])))
         (is_new.stays.transactions number (has_head number []) ∙ before.rests number)
@@ -180,7 +183,7 @@ hands_are store count seat hands is = ap (λ (qs : List ℕ). length qs) is.sess
 pub first_is_new : (store : StoreView) (seat : SeatView) (hands : HandsView) → HasSessions store 1 seat hands → IsNewPass store 1 seat hands
 first_is_new store seat hands is = new_pass store 1 seat hands is.pass is.empty is.sessions
     (ap (has 1) is.sole ∙ has_to (shape_in store).passes 1 (omega arith) is.few)
-    is.mine is.taken (is.under 1) (is.rests 1)
+    is.mine is.taken is.free (is.under 1) (is.rests 1)
 
 -- ---- sessions
 
@@ -195,6 +198,7 @@ new_session store number s new is shut = record {
   made = ap (λ (es : List (Entry CoreEvent)). length es) new.mine;
   none = new.none;
   taken = new.taken;
+  free = new.free;
 }
   where
     rests : own_of s ≡ None
@@ -296,16 +300,16 @@ module _ (hall : StoreView) (core : CoreState) (tables : List TableDecl) (sessio
       shape = of.2 ∙ sym (ap (λ (x : CoreState). x.shape) of.0);
     }
 
-    built_meaning : core_meaning core.shape core.parts sessions 0 ≡ store_meaning (shape_in hall)
+    built_meaning : core_meaning core.shape core.parts sessions ≡ store_meaning (shape_in hall)
     built_meaning =
-        ap (λ (s : Parts). core_meaning core.shape s sessions 0) opening_is.parts_are
-        ∙ ap (λ n. core_meaning core.shape (opening core.shape) n 0) (sym (ap (λ (s : Shape). s.passes) shape_is))
+        ap (λ (s : Parts). core_meaning core.shape s sessions) opening_is.parts_are
+        ∙ ap (λ n. core_meaning core.shape (opening core.shape) n) (sym (ap (λ (s : Shape). s.passes) shape_is))
         ∙ ap (λ (x : CoreState). store_meaning x.shape) (sym of.0)
 
     -- its first pass has all sessions
-    pub first_has : (seat : SeatView) (hands : HandsView) → IsPass (core_meaning core.shape core.parts sessions 0) hall.id seat hands
+    pub first_has : (seat : SeatView) (hands : HandsView) → IsPass (core_meaning core.shape core.parts sessions) hall.id seat hands
         → seat.me.0 ≡ first_view core.parts sessions → ((part : ℕ) → ¬ Holds (first_of hands) part)
-        → ((session : ℕ) → transaction core.shape (replay (core_meaning core.shape core.parts sessions 0) seat.me.0.log) session ≡ None)
+        → ((session : ℕ) → transaction core.shape (replay (core_meaning core.shape core.parts sessions) seat.me.0.log) session ≡ None)
         → HasSessions hall sessions seat hands
     first_has seat hands pass view empty rests = record {
       pass = subst (λ M. IsPass M hall.id seat hands) built_meaning pass;
@@ -315,6 +319,7 @@ module _ (hall : StoreView) (core : CoreState) (tables : List TableDecl) (sessio
       few = let many = passes_are in omega (arith, many);
       mine = ap (λ (v : View CoreEvent). v.mine) view;
       taken = ap (λ (v : View CoreEvent). v.taken) view;
+      free = ap (λ (v : View CoreEvent). v.claim) view;
       under = λ session. subst (λ (v : View CoreEvent). StandsUnder session (log_of v.log)) (sym view) tt;
       rests = λ session.
           ap (λ (x : CoreState). transaction x.shape (replay (store_meaning (shape_in hall)) seat.me.0.log) session) of.0

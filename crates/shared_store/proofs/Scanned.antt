@@ -1,38 +1,44 @@
 -- Reads of a table's blocks one after another, and the scan that they make.
-use Rattle.std.proofs.Common.{◌≡◌, ◌⊎◌, ℕ, zero, suc, ◌+◌, ◌-◌, ◌<◌, ◌≤◌, Bool, true, false, not, ◌&&◌, ◌||◌, List, [], ◌∷◌, ◌++◌, Option, None, Some, Result, Ok, Err, length, map, refl, sym, ap, subst, ◌∙◌, append-nil, length-append, arith}
+use Rattle.std.proofs.Common.{◌≡◌, ◌⊎◌, ℕ, zero, suc, ◌+◌, ◌-◌, ◌<◌, ◌≤◌, Bool, true, false, cond, not, ◌&&◌, ◌||◌, List, [], ◌∷◌, ◌++◌, Option, None, Some, Result, Ok, Err, length, map, refl, sym, ap, subst, ◌∙◌, append-nil, length-append, arith}
 use mathlib.Core.Logic.{inl, inr}
-use Rattle.std.specs.Prelude.{IfOk, IfSome, IsErr, OnOk, flat_map}
+use Rattle.std.specs.Prelude.{IfOk, IfSome, IsErr, OnOk, count_by, flat_map}
 use Rattle.std.specs.List.{last_or, list_any, range_with_len}
 use Rattle.std.proofs.lemmas.List.FromFn.{length-range_with_len}
+use Rattle.std.proofs.lemmas.List.Sums.{count_by-le-length, sum_by-append}
 use Rattle.std.proofs.lemmas.List.{append_assoc, length-map, map-append}
 use Rattle.block_spec.specs.Slots.{Row}
 use Rattle.event_spec.specs.declared.event.Event.TheVariants as event
 use Rattle.event_spec.specs.declared.own.OwnTransaction.{OwnTransaction}
 use Rattle.event_spec.specs.Effects.{CoreEvent}
 use Rattle.event_spec.specs.Lawful.{Among}
-use Rattle.event_spec.specs.Parts.{Shape, below, blocks_of}
+use Rattle.event_spec.specs.Parts.{Parts, Shape, below, blocks_of}
 use Rattle.event_spec.specs.Replies.{CoreReply}
 use Rattle.hall_rule.specs.EventLog.{has}
 use Rattle.isolation_spec.specs.Contents.{State, contents_of}
 use Rattle.run_spec.specs.Asked.{at_blocks, events_of}
-use Rattle.run_spec.specs.Calls.{IsCallBy, IsPart, IsWhole, is_cut_short, is_final, is_memory, is_refused}
-use Rattle.run_spec.specs.Handed.{GoesOn, own_in}
+use Rattle.run_spec.specs.Calls.{Call, IsCallBy, IsPart, IsWhole, is_cut_short, is_final, is_memory, is_refused}
+use Rattle.run_spec.specs.Handed.{GoesOn, Stretch}
 use Rattle.run_spec.specs.Occurrences.{Logged, Occurrence, events_in, replies_in}
-use Rattle.run_spec.specs.Told.{refusal_of, rows_told}
-use Rattle.store_laws.proofs.Calling.{goes_far, made_on}
+use Rattle.run_spec.specs.Told.{is_shared, refusal_of, rows_told}
+use Rattle.store_laws.proofs.Calling.{event_stretch, goes_far, made_on}
+use Rattle.store_laws.proofs.Lends.{no_image_told}
+use Rattle.store_laws.proofs.Lent.{stretch_goes}
+use Rattle.store_laws.proofs.Stretches.{nothing_is_a_stretch, stretches_join}
+use Rattle.store_laws.specs.Stretches.{is_event, reads_block}
 use Rattle.store_laws.specs.Own.{MakesOne, entry_of, occurrence_at, parts_after}
 use Rattle.workload_spec.specs.declared.command.Command.{Command}
 use Rattle.workload_spec.specs.declared.command.Command.TheVariants.{Scan}
 use Rattle.workload_spec.specs.declared.reply.Said.{Said}
 use Rattle.workload_spec.specs.declared.reply.Said.TheVariants as said
-use Rattle.shared_store.specs.Reading.{ReadsBlock, Went, reply_of, rows_in}
-use Rattle.shared_store.specs.declared.reading.BlockRows.{BlockRows}
-use Rattle.shared_store.specs.declared.reading.BlockRows.TheVariants as block
+use Rattle.shared_store.specs.Reading.{IsReadOf, ReadsBlock, Went, reply_of, rows_in}
+use Rattle.shared_store.specs.declared.reading.SeenBlock.{SeenBlock}
+use Rattle.shared_store.specs.declared.reading.SeenBlock.TheVariants as block
 use Rattle.shared_store.specs.Told.{scanned_told}
 use Rattle.shared_store.specs.Scanning.{ArePlain, ReadsOnce, Scans, laid, scan_cost}
-use Rattle.shared_store.specs.Store.{Answers, IsSession, IsTouched, StoreView, TookPartsOf, own_of, seen, shape_in, taken_by, events_made}
+use Rattle.shared_store.specs.Store.{Answers, EndsWithLast, IsSession, IsTouched, KeepsLend, StoreView, TookPartsOf, own_of, seen, shape_in, taken_by, events_made, view_of}
 use Rattle.shared_store.specs.declared.session.Session.{Session}
-use Rattle.shared_store.proofs.Calls.{took_none}
+use Rattle.shared_store.proofs.Calls.{ends_call, took_none}
+use Rattle.shared_store.proofs.Claims.{keeps_on, keeps_stays}
 use Rattle.shared_store.proofs.Counted.{le_more, scanned_more}
 use Rattle.shared_store.proofs.Laid.{laid_all}
 
@@ -48,7 +54,7 @@ has_either k (x ∷ xs) ys is = go (Rattle.std.specs.Prelude.nat_eq k x) is (has
     go false h rest = rest h
 
 -- parts of some events, and then parts of one of them
-took_more : (sh : Shape) (events : List CoreEvent) (e : CoreEvent) (old mid new : List Logged) (taken between later : List ℕ)
+pub took_more : (sh : Shape) (events : List CoreEvent) (e : CoreEvent) (old mid new : List Logged) (taken between later : List ℕ)
     → Among e events → GoesOn old mid → GoesOn mid new
     → TookPartsOf sh events old mid taken between → TookPartsOf sh (e ∷ []) mid new between later
     → TookPartsOf sh events old new taken later
@@ -83,53 +89,110 @@ went_nowhere store s events is = record {
   session = is;
   same = refl;
   opened = refl;
-  goes_on = ([], sym (append-nil (seen s)));
-  own = sym (append-nil (own_in (shape_in store) s.session (seen s)));
+  stretch = nothing_is_a_stretch (shape_in store) s.session (seen s) (seen s) ([], sym (append-nil (seen s))) refl;
   count = omega arith;
   ends = tt;
   took = took_none (shape_in store) events (seen s) (taken_by s);
+  reads = keeps_stays;
 }
 
--- a read of a block, as an event that was made
-abbrev pub read_at : (store : StoreView) (old mid new : Session) (own : OwnTransaction) (t b : ℕ) (told : CoreReply) → ReadsBlock store mid new own t b told → Occurrence
-read_at store old mid new own t b told r = occurrence_at old.session (parts_after (shape_in store) r.makes.before) (event.Read own t b) told
+-- A count over two lists is the sum of both counts.
+events_both : (xs ys : List Occurrence) → count_by is_event (xs ++ ys) ≡ count_by is_event xs + count_by is_event ys
+events_both xs ys = sum_by-append (λ (o : Occurrence). cond {A = ℕ} (is_event o) 1 0) xs ys
 
 -- one event more, of those that the command makes
 pub went_more : (store : StoreView) (old mid new : Session) (e : CoreEvent) (told : CoreReply) (events : List CoreEvent) (made : List Occurrence)
     → Went store old mid events made → IsSession store new → new.session ≡ mid.session → own_of new ≡ own_of mid
     → (m : MakesOne (shape_in store) mid.session (seen mid) (seen new) e told) → events_made new ≡ events_made mid + 1
     → TookPartsOf (shape_in store) (e ∷ []) (seen mid) (seen new) (taken_by mid) (taken_by new) → Among e events
+    → reads_block e ≡ false → KeepsLend (view_of mid) (view_of new)
     → Went store old new events (made ++ occurrence_at old.session (parts_after (shape_in store) m.before) e told ∷ [])
-went_more store old mid new e told events made w is same opened m one took among = record {
+went_more store old mid new e told events made w is same opened m one took among other keeps = record {
   session = is;
   same = same ∙ w.same;
   opened = opened ∙ w.opened;
-  goes_on = goes_far (seen old) (seen mid) (seen new) w.goes_on on;
-  own = subst (λ q. own_in (shape_in store) q (seen new) ≡ own_in (shape_in store) q (seen mid) ++ occurrence_at q (parts_after (shape_in store) m.before) e told ∷ []) w.same m.own
-      ∙ ap (λ os. os ++ last ∷ []) w.own
-      ∙ append_assoc (own_in (shape_in store) old.session (seen old)) made (last ∷ []);
+  stretch = stretches_join (shape_in store) old.session (seen old) (seen mid) (seen new) made (last ∷ []) w.stretch
+      (subst (λ q. Stretch (shape_in store) q (seen mid) (seen new) (occurrence_at q (parts_after (shape_in store) m.before) e told ∷ [])) w.same
+      (event_stretch (shape_in store) mid.session (seen mid) (seen new) e told m unshared));
   count =
       let a = w.count in
-      let c : length (made ++ last ∷ []) ≡ length made + 1 = length-append made (last ∷ []) in
-      omega (arith, a, one, c);
-  ends = subst (λ o. IfSome o (λ last. (before : List Logged) × (seen new ≡ before ++ entry_of last.session last.event last.reply ∷ [])))
+      let c = events_both made (last ∷ []) in
+      let d : count_by is_event (last ∷ []) ≡ 1 = ap (λ b. 0 + cond {A = ℕ} (not b) 1 0) unshared in
+      omega (arith, a, one, c, d);
+  ends = subst (λ o. IfSome o (λ last. is_event last ≡ true → (before : List Logged) × (seen new ≡ before ++ entry_of last.session last.event last.reply ∷ [])))
       (sym (last_added None made last))
-      (m.before, subst (λ q. seen new ≡ m.before ++ entry_of q e told ∷ []) w.same m.log);
-  took = took_more (shape_in store) events e (seen old) (seen mid) (seen new) (taken_by old) (taken_by mid) (taken_by new) among w.goes_on on w.took took;
+      (λ event'. (m.before, subst (λ q. seen new ≡ m.before ++ entry_of q e told ∷ []) w.same m.log));
+  took = took_more (shape_in store) events e (seen old) (seen mid) (seen new) (taken_by old) (taken_by mid) (taken_by new) among w_on on w.took took;
+  reads = keeps_on w.reads keeps;
 }
   where
     last : Occurrence
     last = occurrence_at old.session (parts_after (shape_in store) m.before) e told
 
+    unshared : is_shared told ≡ false
+    unshared = ap is_shared m.reply ∙ no_image_told (shape_in store) (parts_after (shape_in store) m.before) e (is_memory told) other
+
     on : GoesOn (seen mid) (seen new)
     on = made_on (shape_in store) mid.session (seen mid) (seen new) e told m
 
+    w_on : GoesOn (seen old) (seen mid)
+    w_on = stretch_goes (shape_in store) old.session (seen old) (seen mid) made w.stretch
+
+-- ---- reads
+
+-- the read of a block, as it was told
+abbrev pub read_at : (old : Session) (own : OwnTransaction) (t b : ℕ) (parts : Parts) (told : CoreReply) → Occurrence
+read_at old own t b parts told = occurrence_at old.session parts (event.Read own t b) told
+
+-- A read that told anything but want of memory is one occurrence.
+pub one_read : (session : ℕ) (own : OwnTransaction) (t b : ℕ) (told : CoreReply) (made : List Occurrence) → IsReadOf session own t b told made → is_memory told ≡ false
+    → (parts : Parts) × (made ≡ occurrence_at session parts (event.Read own t b) told ∷ [])
+one_read session own t b told made (inl one) granted = one
+one_read session own t b told made (inr none') granted = absurd (never (sym granted ∙ ap is_memory none'.0))
+  where
+    never : false ≡ true → ⊥
+    never e = cc
+
+-- A read is one event at most.
+pub read_once : (session : ℕ) (own : OwnTransaction) (t b : ℕ) (told : CoreReply) (made : List Occurrence) → IsReadOf session own t b told made → count_by is_event made ≤ 1
+read_once session own t b told made (inl one) =
+    let few = count_by-le-length is_event (occurrence_at session one.0 (event.Read own t b) told ∷ []) in
+    let same = ap (λ (os : List Occurrence). count_by is_event os) one.1 in
+    omega (arith, few, same)
+read_once session own t b told made (inr none') = let same = ap (λ (os : List Occurrence). count_by is_event os) none'.1 in omega (arith, same)
+
 -- one read more
 pub went_on : (store : StoreView) (old mid new : Session) (own : OwnTransaction) (t b : ℕ) (told : CoreReply) (events : List CoreEvent) (made : List Occurrence)
-    → Went store old mid events made → (r : ReadsBlock store mid new own t b told) → Among (event.Read own t b) events
-    → Went store old new events (made ++ read_at store old mid new own t b told r ∷ [])
-went_on store old mid new own t b told events made w r one =
-    went_more store old mid new (event.Read own t b) told events made w r.session r.same r.opened r.makes r.count r.took one
+    → Went store old mid events made → (r : ReadsBlock store mid new own t b told) → Among (event.Read own t b) events → KeepsLend (view_of mid) (view_of new)
+    → (parts : Parts) → r.made ≡ occurrence_at mid.session parts (event.Read own t b) told ∷ []
+    → Went store old new events (made ++ read_at old own t b parts told ∷ [])
+went_on store old mid new own t b told events made w r one keeps parts is = record {
+  session = r.session;
+  same = r.same ∙ w.same;
+  opened = r.opened ∙ w.opened;
+  stretch = stretches_join (shape_in store) old.session (seen old) (seen mid) (seen new) made (last ∷ []) w.stretch
+      (subst (λ os. Stretch (shape_in store) old.session (seen mid) (seen new) os) here
+      (subst (λ q. Stretch (shape_in store) q (seen mid) (seen new) r.made) w.same r.stretch));
+  count =
+      let a = w.count in
+      let b' = r.count in
+      let c = events_both made (last ∷ []) in
+      let d = ap (λ (os : List Occurrence). count_by is_event os) here in
+      omega (arith, a, b', c, d);
+  ends = subst (λ o. IfSome o (λ last. is_event last ≡ true → (before : List Logged) × (seen new ≡ before ++ entry_of last.session last.event last.reply ∷ [])))
+      (sym (last_added None made last))
+      (subst (λ (os : List Occurrence). EndsWithLast os (seen new)) here r.ends);
+  took = took_more (shape_in store) events (event.Read own t b) (seen old) (seen mid) (seen new) (taken_by old) (taken_by mid) (taken_by new) one
+      (stretch_goes (shape_in store) old.session (seen old) (seen mid) made w.stretch)
+      (stretch_goes (shape_in store) mid.session (seen mid) (seen new) r.made r.stretch) w.took r.took;
+  reads = keeps_on w.reads keeps;
+}
+  where
+    last : Occurrence
+    last = read_at old own t b parts told
+
+    here : r.made ≡ last ∷ []
+    here = is ∙ ap (λ q. occurrence_at q parts (event.Read own t b) told ∷ []) w.same
 
 -- ---- calls
 
@@ -143,15 +206,78 @@ pub went_call : (store : StoreView) (old new : Session) (c : Command) (events : 
 went_call store old new c events made line is w same granted either = record {
   made = made;
   called = record {
-    goes_on = w.goes_on;
-    made = w.own;
+    stretch = w.stretch;
     is_call = subst (λ o. IsCallBy (shape_in store) false old.session o (refusal_of c o) (record { command = c; made = made; told = Some line })) is.own
         (subst (λ r. IsCallBy (shape_in store) false old.session (own_of old) r (record { command = c; made = made; told = Some line })) (sym granted) either);
   };
   count = w.count;
-  ends = w.ends;
+  ends = ends_call line made (seen new) w.ends;
   took = subst (λ es. TookPartsOf (shape_in store) es (seen old) (seen new) (taken_by old) (taken_by new)) (sym same) w.took;
+  reads = w.reads;
 }
+
+-- Each is a read that was granted.
+abbrev AreReads : List Occurrence → Type 0
+AreReads [] = Unit {0}
+AreReads (o ∷ os) = ((reads_block o.event ≡ true) × (is_refused o ≡ false)) × AreReads os
+
+-- Plain reads of blocks are such.
+pub plain_reads : (own : OwnTransaction) (t : ℕ) (made : List Occurrence) (blocks : List ℕ) → events_in made ≡ map (event.Read own t) blocks → ArePlain made → AreReads made
+plain_reads own t [] blocks is plain = tt
+plain_reads own t (o ∷ os) [] is plain = absurd (some_none o.event (events_in os) is)
+  where
+    some_none : (e : CoreEvent) (es : List CoreEvent) → e ∷ es ≡ [] → ⊥
+    some_none e es x = cc
+plain_reads own t (o ∷ os) (b ∷ bs) is plain = (
+  (ap reads_block (heads o.event (event.Read own t b) (events_in os) (map (event.Read own t) bs) is), plain.0),
+  plain_reads own t os bs (tails o.event (event.Read own t b) (events_in os) (map (event.Read own t) bs) is) plain.2,
+)
+  where
+    heads : (x y : CoreEvent) (xs ys : List CoreEvent) → x ∷ xs ≡ y ∷ ys → x ≡ y
+    heads x y xs ys e = cc
+
+    tails : (x y : CoreEvent) (xs ys : List CoreEvent) → x ∷ xs ≡ y ∷ ys → xs ≡ ys
+    tails x y xs ys e = cc
+
+-- Behind such reads the call did not end with one of them, where there was no memory to lend a block.
+pub no_end : (log : List Logged) (o : Option Occurrence) (xs : List Occurrence) → IfSome o (λ last. (reads_block last.event ≡ true) × (is_refused last ≡ false)) → AreReads xs
+    → IfSome (last_or o xs) (λ last. is_event last ≡ true → (said.Memory ≡ said.Memory → reads_block last.event ≡ true → is_refused last ≡ true)
+    → (before : List Logged) × (log ≡ before ++ entry_of last.session last.event last.reply ∷ []))
+no_end log None [] h all = tt
+no_end log (Some last) [] h all = λ event' wanting. absurd (apart (sym (wanting refl h.0) ∙ h.1))
+  where
+    apart : true ≡ false → ⊥
+    apart e = cc
+no_end log o (x ∷ xs) h all = no_end log (Some x) xs all.0 all.1
+
+-- So they are where there was no memory to lend the block behind them.
+unfoldable pub unlent_call : (store : StoreView) (old mid new : Session) (own : OwnTransaction) (t b : ℕ) (told : CoreReply) (c : Command) (events : List CoreEvent) (made : List Occurrence)
+    → IsSession store old → Went store old mid events made → (r : ReadsBlock store mid new own t b told) → Among (event.Read own t b) events → KeepsLend (view_of mid) (view_of new)
+    → r.made ≡ [] → AreReads made
+    → events_of (shape_in store) (own_of old) old.session c made ≡ events → refusal_of c (own_of old) ≡ None
+    → IsPart (shape_in store) old.session (own_of old) (record { command = c; made = made; told = Some said.Memory })
+    → Answers store old new c said.Memory
+unlent_call store old mid new own t b told c events made is w r one keeps none' reads same granted part = record {
+  made = made;
+  called = record {
+    stretch = subst (Stretch (shape_in store) old.session (seen old) (seen new)) (append-nil made)
+        (stretches_join (shape_in store) old.session (seen old) (seen mid) (seen new) made [] w.stretch
+        (subst (Stretch (shape_in store) old.session (seen mid) (seen new)) none'
+        (subst (λ q. Stretch (shape_in store) q (seen mid) (seen new) r.made) w.same r.stretch)));
+    is_call = subst (λ o. IsCallBy (shape_in store) false old.session o (refusal_of c o) call) is.own
+        (subst (λ x. IsCallBy (shape_in store) false old.session (own_of old) x call) (sym granted) (inr part));
+  };
+  count = let a = w.count in let b' = r.count in let d = ap (λ (os : List Occurrence). count_by is_event os) none' in omega (arith, a, b', d);
+  ends = no_end (seen new) None made tt reads;
+  took = subst (λ es. TookPartsOf (shape_in store) es (seen old) (seen new) (taken_by old) (taken_by new)) (sym same)
+      (took_more (shape_in store) events (event.Read own t b) (seen old) (seen mid) (seen new) (taken_by old) (taken_by mid) (taken_by new) one
+      (stretch_goes (shape_in store) old.session (seen old) (seen mid) made w.stretch)
+      (stretch_goes (shape_in store) mid.session (seen mid) (seen new) r.made r.stretch) w.took r.took);
+  reads = keeps_on w.reads keeps;
+}
+  where
+    call : Call
+    call = record { command = c; made = made; told = Some said.Memory }
 
 -- ---- a scan
 
@@ -253,10 +379,10 @@ module _ (store : StoreView) (own : OwnTransaction) (t : ℕ) where
       (member_map (event.Read own t) (below k) r.0 k)
 
   -- the next block was read
-  next_made : (old mid new : Session) (k : ℕ) (state : State) (told : CoreReply) → (s : Scans store old mid own t k state) → (r : ReadsBlock store mid new own t k told)
-      → events_in (s.made ++ read_at store old mid new own t k told r ∷ []) ≡ map (event.Read own t) (below (k + 1))
-  next_made old mid new k state told s r =
-      map-append (λ (o : Occurrence). o.event) s.made (read_at store old mid new own t k told r ∷ [])
+  next_made : (old mid : Session) (k : ℕ) (state : State) (parts : Parts) (told : CoreReply) → (s : Scans store old mid own t k state)
+      → events_in (s.made ++ read_at old own t k parts told ∷ []) ≡ map (event.Read own t) (below (k + 1))
+  next_made old mid k state parts told s =
+      map-append (λ (o : Occurrence). o.event) s.made (read_at old own t k parts told ∷ [])
       ∙ ap (λ es. es ++ event.Read own t k ∷ []) s.events
       ∙ sym (ap (map (event.Read own t)) (below_more k) ∙ map-append (event.Read own t) (below k) (k ∷ []))
 
@@ -266,18 +392,21 @@ module _ (store : StoreView) (own : OwnTransaction) (t : ℕ) where
   flat_more (x ∷ xs) told = ap (λ rs. rows_told x ++ rs) (flat_more xs told) ∙ sym (append_assoc (rows_told x) (flat_map rows_told xs) (rows_told told))
 
   -- one block more was read, and its rows were laid
-  pub scan_goes_on : (old mid new : Session) (k : ℕ) (state now : State) (told : CoreReply) → Scans store old mid own t k state → ReadsBlock store mid new own t k told
-      → k < blocks_of sh t → is_memory told ≡ false → now ≡ laid t state (rows_told told) → Scans store old new own t (k + 1) now
-  scan_goes_on old mid new k state now told s r lt granted rows = record {
-    made = s.made ++ read_at store old mid new own t k told r ∷ [];
-    went = went_on store old mid new own t k told asked s.made s.went r (is_asked k lt);
-    events = next_made old mid new k state told s r;
-    plain = plain_added s.made (read_at store old mid new own t k told r) s.plain granted refl;
-    rows = rows ∙ ap (λ st. laid t st (rows_told told)) s.rows
-        ∙ sym (laid_all t [] (flat_map rows_told (replies_in s.made)) (rows_told told))
-        ∙ ap (laid t []) (sym (flat_more (replies_in s.made) told)
-        ∙ ap (flat_map rows_told) (sym (map-append (λ (o : Occurrence). o.reply) s.made (read_at store old mid new own t k told r ∷ []))));
-  }
+  pub scan_goes_on : (old mid new : Session) (k : ℕ) (state now : State) (told : CoreReply) → Scans store old mid own t k state → (r : ReadsBlock store mid new own t k told)
+      → KeepsLend (view_of mid) (view_of new) → k < blocks_of sh t → (granted : is_memory told ≡ false) → now ≡ laid t state (rows_told told) → Scans store old new own t (k + 1) now
+  scan_goes_on old mid new k state now told s r keeps lt granted rows =
+      let one = one_read mid.session own t k told r.made r.is_read granted in
+      let last : Occurrence = read_at old own t k one.0 told in
+      record {
+        made = s.made ++ last ∷ [];
+        went = went_on store old mid new own t k told asked s.made s.went r (is_asked k lt) keeps one.0 one.1;
+        events = next_made old mid k state one.0 told s;
+        plain = plain_added s.made last s.plain granted refl;
+        rows = rows ∙ ap (λ st. laid t st (rows_told told)) s.rows
+            ∙ sym (laid_all t [] (flat_map rows_told (replies_in s.made)) (rows_told told))
+            ∙ ap (laid t []) (sym (flat_more (replies_in s.made) told)
+            ∙ ap (flat_map rows_told) (sym (map-append (λ (o : Occurrence). o.reply) s.made (last ∷ []))));
+      }
 
   module _ (old : Session) (is : IsSession store old) (open' : own_of old ≡ Some own) where
     asks : (made : List Occurrence) → events_of sh (own_of old) old.session (Scan t) made ≡ asked
@@ -306,19 +435,44 @@ module _ (store : StoreView) (own : OwnTransaction) (t : ℕ) where
     }))
 
     -- a read was refused memory, or there was none for its rows
-    pub scan_unread : (mid new : Session) (k : ℕ) (state : State) (told : CoreReply) → k < blocks_of sh t → Scans store old mid own t k state → ReadsBlock store mid new own t k told
+    scan_unread_one : (mid new : Session) (k : ℕ) (state : State) (told : CoreReply) → k < blocks_of sh t → Scans store old mid own t k state → (r : ReadsBlock store mid new own t k told)
+        → KeepsLend (view_of mid) (view_of new) → (parts : Parts) → r.made ≡ occurrence_at mid.session parts (event.Read own t k) told ∷ []
         → Answers store old new (Scan t) said.Memory
-    scan_unread mid new k state told lt s r =
+    scan_unread_one mid new k state told lt s r keeps parts one =
         let le : k + 1 ≤ blocks_of sh t = omega (arith, lt) in
-        let made = s.made ++ read_at store old mid new own t k told r ∷ [] in
-        went_call store old new (Scan t) asked made said.Memory is (went_on store old mid new own t k told asked s.made s.went r (is_asked k lt)) (asks made) granted_here (inr (record {
+        let last : Occurrence = read_at old own t k parts told in
+        let made = s.made ++ last ∷ [] in
+        went_call store old new (Scan t) asked made said.Memory is (went_on store old mid new own t k told asked s.made s.went r (is_asked k lt) keeps parts one) (asks made) granted_here (inr (record {
           may = refl;
           missed = map (event.Read own t) (rest_of (blocks_of sh t) (k + 1) le).0;
           events = asks made ∙ ap (map (event.Read own t)) (rest_of (blocks_of sh t) (k + 1) le).1 ∙ map-append (event.Read own t) (below (k + 1)) (rest_of (blocks_of sh t) (k + 1) le).0
-              ∙ ap (λ es. es ++ map (event.Read own t) (rest_of (blocks_of sh t) (k + 1) le).0) (sym (next_made old mid new k state told s r));
-          cut = plain_cut_behind s.made (read_at store old mid new own t k told r) s.plain refl;
+              ∙ ap (λ es. es ++ map (event.Read own t) (rest_of (blocks_of sh t) (k + 1) le).0) (sym (next_made old mid k state parts told s));
+          cut = plain_cut_behind s.made last s.plain refl;
           line = refl;
         }))
+
+    -- there was no memory to lend the block
+    scan_unlent : (mid new : Session) (k : ℕ) (state : State) (told : CoreReply) → k < blocks_of sh t → (s : Scans store old mid own t k state) → (r : ReadsBlock store mid new own t k told)
+        → KeepsLend (view_of mid) (view_of new) → r.made ≡ [] → Answers store old new (Scan t) said.Memory
+    scan_unlent mid new k state told lt s r keeps none' =
+        let le : k ≤ blocks_of sh t = omega (arith, lt) in
+        unlent_call store old mid new own t k told (Scan t) asked s.made is s.went r (is_asked k lt) keeps none' (plain_reads own t s.made (below k) s.events s.plain) (asks s.made) granted_here (record {
+          may = refl;
+          missed = map (event.Read own t) (rest_of (blocks_of sh t) k le).0;
+          events = asks s.made ∙ ap (map (event.Read own t)) (rest_of (blocks_of sh t) k le).1 ∙ map-append (event.Read own t) (below k) (rest_of (blocks_of sh t) k le).0
+              ∙ ap (λ es. es ++ map (event.Read own t) (rest_of (blocks_of sh t) k le).0) (sym s.events);
+          cut = plain_cut s.made s.plain;
+          line = refl;
+        })
+
+    -- one or the other
+    pub scan_unread : (mid new : Session) (k : ℕ) (state : State) (told : CoreReply) → k < blocks_of sh t → Scans store old mid own t k state → (r : ReadsBlock store mid new own t k told)
+        → KeepsLend (view_of mid) (view_of new) → Answers store old new (Scan t) said.Memory
+    scan_unread mid new k state told lt s r keeps = go r.is_read
+      where
+        go : IsReadOf mid.session own t k told r.made → Answers store old new (Scan t) said.Memory
+        go (inl one) = scan_unread_one mid new k state told lt s r keeps one.0 one.1
+        go (inr none') = scan_unlent mid new k state told lt s r keeps none'.1
 
 -- ---- how a scan's calls end
 
@@ -337,14 +491,14 @@ unscanned (Ok v) is = absurd (never is)
 unscanned (Err e) is = refl
 
 -- the rows that a read has are those of its reply, which is no want of memory
-pub rows_same : (E : Type 0) (read : BlockRows) → rows_told (reply_of {E = E} (Ok read)) ≡ rows_in read
+pub rows_same : (E : Type 0) (seen : SeenBlock) → rows_told (reply_of {E = E} (Ok seen)) ≡ rows_in seen
 rows_same E (block.Rows rows) = refl
-rows_same E (block.Shared rows) = refl
+rows_same E (block.Lent lend) = refl
 
 -- a read that has rows was not refused memory
-pub read_granted : (E : Type 0) (read : BlockRows) → is_memory (reply_of {E = E} (Ok read)) ≡ false
+pub read_granted : (E : Type 0) (seen : SeenBlock) → is_memory (reply_of {E = E} (Ok seen)) ≡ false
 read_granted E (block.Rows rows) = refl
-read_granted E (block.Shared rows) = refl
+read_granted E (block.Lent lend) = refl
 
 -- a scan made one event for each block that it read
 pub scans_count : (store : StoreView) (old new : Session) (own : OwnTransaction) (t k : ℕ) (state : State) → (s : Scans store old new own t k state) → length s.made ≡ k
@@ -392,33 +546,43 @@ module _ (store : StoreView) (own : OwnTransaction) (t : ℕ) where
   }
 
   module _ (old mid new : Session) (k : ℕ) (state : State) (told : CoreReply) (spent steps later : ℕ)
-      (s : ScansBy store old mid own t k state spent steps) (r : ReadsBlock store mid new own t k told) (lt : k < blocks_of (shape_in store) t)
+      (s : ScansBy store old mid own t k state spent steps) (r : ReadsBlock store mid new own t k told) (keeps : KeepsLend (view_of mid) (view_of new)) (lt : k < blocks_of (shape_in store) t)
       (few : later ≤ steps + scan_cost (shape_in store) t (told ∷ [])) where
-    -- The reads with the next one.
-    abbrev further : List Occurrence
-    further = s.scans.made ++ read_at store old mid new own t k told r ∷ []
-
-    few_further : later ≤ spent + scan_cost (shape_in store) t (replies_in further)
-    few_further = subst (λ (replies : List CoreReply). later ≤ spent + scan_cost (shape_in store) t replies)
-        (sym (map-append (λ (o : Occurrence). o.reply) s.scans.made (read_at store old mid new own t k told r ∷ [])))
+    few_further : (parts : Parts) → later ≤ spent + scan_cost (shape_in store) t (replies_in (s.scans.made ++ read_at old own t k parts told ∷ []))
+    few_further parts = subst (λ (replies : List CoreReply). later ≤ spent + scan_cost (shape_in store) t replies)
+        (sym (map-append (λ (o : Occurrence). o.reply) s.scans.made (read_at old own t k parts told ∷ [])))
         (scanned_more (shape_in store) t (replies_in s.scans.made) told spent steps later s.few few)
 
     -- one block more was read, and its rows were laid
     pub steps_go_on : (now : State) → is_memory told ≡ false → now ≡ laid t state (rows_told told) → ScansBy store old new own t (k + 1) now spent later
     unfolding scan_goes_on
     steps_go_on now granted rows = record {
-      scans = scan_goes_on store own t old mid new k state now told s.scans r lt granted rows;
-      few = few_further;
+      scans = scan_goes_on store own t old mid new k state now told s.scans r keeps lt granted rows;
+      few = few_further (one_read mid.session own t k told r.made r.is_read granted).0;
     }
 
     -- one block more was read, and there was no memory for it or for its rows
-    pub steps_break : ReadsOnce store old new t spent later
-    steps_break = record {
-      made = further;
-      own = (went_on store old mid new own t k told (asked store own t) s.scans.made s.scans.went r (is_asked store own t k lt)).own;
-      few = few_further;
-    }
+    pub steps_break : (is : IsSession store old) → own_of old ≡ Some own → (r.made ≡ [] → later ≤ steps) → ReadsOnce store old new t said.Memory spent later
+    unfolding scan_unread_one scan_unlent went_call unlent_call
+    steps_break is open' unlooked = go r.is_read
+      where
+        go : IsReadOf mid.session own t k told r.made → ReadsOnce store old new t said.Memory spent later
+        go (inl one) = record {
+          answers = scan_unread_one store own t old is open' mid new k state told lt s.scans r keeps one.0 one.1;
+          few = few_further one.0;
+        }
+        go (inr none') = record {
+          answers = scan_unlent store own t old is open' mid new k state told lt s.scans r keeps none'.1;
+          few = let first = s.few in let then = unlooked none'.1 in omega (arith, first, then);
+        }
 
   -- behind the last block
-  pub steps_end : (old new : Session) (k : ℕ) (state : State) (spent steps : ℕ) → ScansBy store old new own t k state spent steps → ReadsOnce store old new t spent steps
-  steps_end old new k state spent steps s = record { made = s.scans.made; own = s.scans.went.own; few = s.few }
+  pub steps_end : {E : Type 0} (old new : Session) (state : State) (spent steps : ℕ) (result : Result (List Row) E) (is : IsSession store old) → own_of old ≡ Some own
+      → (s : ScansBy store old new own t (blocks_of (shape_in store) t) state spent steps) → IfOk result (λ rows. rows ≡ contents_of t state)
+      → ReadsOnce store old new t (scanned_told result) spent steps
+  unfolding scan_whole scan_unlaid went_call
+  steps_end old new state spent steps (Ok rows) is open' s same =
+      subst (λ (rows : List Row). ReadsOnce store old new t (said.Scanned rows) spent steps) (sym same)
+      (record { answers = scan_whole store own t old is open' new state s.scans; few = s.few })
+  steps_end old new state spent steps (Err memory) is open' s same =
+      record { answers = scan_unlaid store own t old is open' new (blocks_of (shape_in store) t) state (omega arith) s.scans; few = s.few }

@@ -17,13 +17,13 @@ use Rattle.shared_store.specs.declared.session.Session.{Session}
 
 -- what the core means to the store's hall is what it means to the laws
 abbrev pub hall_meaning : StoreView → Meaning CorePart CoreEvent Opened ℕ
-hall_meaning store = core_meaning store.core.shape store.core.parts store.passes 0
+hall_meaning store = core_meaning store.core.shape store.core.parts store.passes
 
 -- the store's hall and the laws mean the same by the core
 pub is_meaning : (store : StoreView) → IsStore store → hall_meaning store ≡ store_meaning (shape_in store)
 is_meaning store is =
-    ap (λ (s : Parts). core_meaning store.core.shape s store.passes 0) is.opening.parts_are
-    ∙ ap (λ n. core_meaning store.core.shape (opening store.core.shape) n 0) is.passes
+    ap (λ (s : Parts). core_meaning store.core.shape s store.passes) is.opening.parts_are
+    ∙ ap (λ n. core_meaning store.core.shape (opening store.core.shape) n) is.passes
 
 -- Entries named up to a number stand in the log under sessions from 1 up to it.
 each_named : (n : ℕ) (log : List (Entry CoreEvent)) → NamedTo n log → All (IsNamed n) (log_of log)

@@ -23,6 +23,7 @@ use Rattle.shared_store.specs.Store.{IsSession, HandsView, IsAt, IsStore, SeatVi
 use Rattle.shared_store.specs.declared.session.Session.{Session}
 use Rattle.shared_store.proofs.Open.{sees_on}
 use Rattle.shared_store.proofs.Sessions.{hall_meaning, is_meaning, session_is}
+use Rattle.shared_store.proofs.Claims.{keeps_same}
 
 -- what holds by what the core means to the hall, and what by what it means to the laws
 pub by_laws : (F : Meaning CorePart CoreEvent Opened ℕ → StoreView → Type 0) (inside now : StoreView) → IsStore inside → inside ≡ now
@@ -123,6 +124,7 @@ meets store old new saw same opened = record {
   own = saw.sees.same;
   made = saw.count;
   taken = saw.taken;
+  reads = keeps_same saw.sees.reads;
   is_open = sees_on store old new later same opened saw.sees.goes_on saw.sees.same;
 }
   where

@@ -18,7 +18,11 @@ use Rattle.event_spec.specs.Replies.{CoreReply}
 use Rattle.isolation_spec.specs.Contents.{History, State, WriteSet, contents_of}
 use Rattle.run_spec.specs.Asked.{at_all_blocks, at_blocks, by_own, events_of, looks_in, moves, oldest_told, prunes}
 use Rattle.run_spec.specs.Calls.{Call, IsCallBy}
-use Rattle.run_spec.specs.Handed.{GoesOn, own_in}
+use Rattle.run_spec.specs.Handed.{GoesOn, Stretch, own_in}
+use Rattle.run_spec.specs.Traces.{as_log}
+use Rattle.store_laws.proofs.Lent.{EachEvent, events_each, events_grown, own_events, stretch_goes, whole_lawful, whole_log, whole_own, whole_under}
+use Rattle.store_laws.specs.Stretches.{is_event}
+use Rattle.std.proofs.lemmas.List.Sums.{count_by-le-length}
 use Rattle.run_spec.specs.Occurrences.{Logged, Occurrence, events_in, replies_in}
 use Rattle.run_spec.specs.Opened.{own_after, own_behind}
 use Rattle.run_spec.specs.Told.{refusal_of}
@@ -33,7 +37,7 @@ use Rattle.workload_spec.specs.declared.command.Command.{Command}
 use Rattle.workload_spec.specs.declared.command.Command.TheVariants as command
 use Rattle.workload_spec.specs.declared.reply.Said.{Said}
 use Rattle.shared_store.specs.Open.{FindsRows, IsOpen, LeavesOpen, commits_seen, machine_of}
-use Rattle.shared_store.specs.Reading.{ReadsBlock, Went}
+use Rattle.shared_store.specs.Reading.{IsReadOf, ReadsBlock, Went}
 use Rattle.shared_store.specs.Scanning.{Scans}
 use Rattle.shared_store.specs.Store.{Answers, IsSession, MakesAtMost, StoreView, own_of, seen, shape_in}
 use Rattle.shared_store.specs.Sweeping.{Sweeps}
@@ -186,6 +190,33 @@ module _ (store : StoreView) (old new : Session) (made : List Occurrence) (later
     commits = more_commits (shape_in store) (seen old) (seen new) goes;
   }
 
+-- What holds of each event of some occurrences, as of their events.
+each_of : (made : List Occurrence) → AskNothing (events_in made) → EachEvent (λ e. command_in e ≡ None) made
+each_of [] asks = tt
+each_of (o ∷ os) asks = (asks.0, each_of os asks.1)
+
+of_each : (made : List Occurrence) → EachEvent (λ e. command_in e ≡ None) made → AskNothing (events_in made)
+of_each [] each = tt
+of_each (o ∷ os) each = (each.0, of_each os each.1)
+
+-- A session that made such events and lent blocks alone.
+module _ (store : StoreView) (old new : Session) (made : List Occurrence) (later : IsSession store new) (same : new.session ≡ old.session)
+    (s : Stretch (shape_in store) old.session (seen old) (seen new) made) (asks : AskNothing (events_in made)) where
+  -- Its events alone ask nothing.
+  asks_alone : AskNothing (events_in (own_events (shape_in store) old.session (seen old) (seen new) made s))
+  asks_alone = of_each (own_events (shape_in store) old.session (seen old) (seen new) made s)
+      (events_each (shape_in store) old.session (seen old) (seen new) made s (λ e. command_in e ≡ None) (each_of made asks))
+
+  -- it has open what it had
+  pub stretch_keeps : IsSession store old → own_of new ≡ own_of old
+  stretch_keeps is = leaves_own store old new (own_events (shape_in store) old.session (seen old) (seen new) made s) later same
+      (stretch_goes (shape_in store) old.session (seen old) (seen new) made s) (events_grown (shape_in store) old.session (seen old) (seen new) made s) asks_alone is
+
+  -- and so to the machine
+  pub stretch_leaves : own_of new ≡ own_of old → LeavesOpen store old new
+  stretch_leaves opened = leaves_open store old new (own_events (shape_in store) old.session (seen old) (seen new) made s) later same
+      (stretch_goes (shape_in store) old.session (seen old) (seen new) made s) (events_grown (shape_in store) old.session (seen old) (seen new) made s) asks_alone opened
+
 -- A call of a command whose events ask nothing leaves what is open.
 pub call_leaves : (store : StoreView) (old new : Session) (c : Command) (line : Said) → IsSession store old → IsSession store new → new.session ≡ old.session
     → Answers store old new c line → ((made : List Occurrence) → AskNothing (events_of (shape_in store) (own_after (own_in (shape_in store) old.session (seen old))) old.session c made))
@@ -193,8 +224,7 @@ pub call_leaves : (store : StoreView) (old new : Session) (c : Command) (line : 
 call_leaves store old new c line is later same a asks =
     let front : Option OwnTransaction = own_after (own_in (shape_in store) old.session (seen old)) in
     let none' = made_asks (shape_in store) old.session front (refusal_of c front) (record { command = c; made = a.made; told = Some line }) a.called.is_call (asks a.made) in
-    leaves_open store old new a.made later same a.called.goes_on a.called.made none'
-    (leaves_own store old new a.made later same a.called.goes_on a.called.made none' is)
+    stretch_leaves store old new a.made later same a.called.stretch none' (stretch_keeps store old new a.made later same a.called.stretch none' is)
 
 -- and makes no more events than they are
 pub call_few : (store : StoreView) (old new : Session) (c : Command) (line : Said) (most : ℕ) → Answers store old new c line
@@ -205,7 +235,8 @@ call_few store old new c line most a few =
     let one = made_few (shape_in store) old.session front (refusal_of c front) (record { command = c; made = a.made; told = Some line }) a.called.is_call in
     let two = few a.made in
     let count = a.count in
-    omega (arith, one, two, count)
+    let events = count_by-le-length is_event a.made in
+    omega (arith, one, two, count, events)
 
 -- ---- events one after another
 
@@ -216,7 +247,7 @@ tables_ask shape e none' tables = nothing_flat (λ table. at_blocks shape table 
 -- a session that went through such events
 pub went_leaves : (store : StoreView) (old new : Session) (events : List CoreEvent) (made : List Occurrence) → Went store old new events made → AskNothing (events_in made)
     → LeavesOpen store old new
-went_leaves store old new events made w asks = leaves_open store old new made w.session w.same w.goes_on w.own asks w.opened
+went_leaves store old new events made w asks = stretch_leaves store old new made w.session w.same w.stretch asks w.opened
 
 -- and one that swept over them
 pub swept_leaves : (store : StoreView) (asked : List CoreEvent) (tells : List Occurrence → Type 0) (old new : Session) (events : List CoreEvent) → Sweeps store asked tells old new events → AskNothing events
@@ -225,9 +256,11 @@ swept_leaves store asked tells old new events s asks = went_leaves store old new
 
 -- a session that read a block
 pub read_leaves : (store : StoreView) (old new : Session) (own : OwnTransaction) (table block : ℕ) (told : CoreReply) → ReadsBlock store old new own table block told → LeavesOpen store old new
-read_leaves store old new own table block told r =
-    leaves_open store old new (occurrence_at old.session (parts_after (shape_in store) r.makes.before) (event.Read own table block) told ∷ []) r.session r.same
-    (made_on (shape_in store) old.session (seen old) (seen new) (event.Read own table block) told r.makes) r.makes.own (refl, tt) r.opened
+read_leaves store old new own table block told r = stretch_leaves store old new r.made r.session r.same r.stretch (go r.is_read) r.opened
+  where
+    go : IsReadOf old.session own table block told r.made → AskNothing (events_in r.made)
+    go (inl one) = subst (λ (os : List Occurrence). AskNothing (events_in os)) (sym one.1) (refl, tt)
+    go (inr none') = subst (λ (os : List Occurrence). AskNothing (events_in os)) (sym none'.1) tt
 
 -- ---- scans
 
@@ -264,13 +297,14 @@ scanned_rows : (store : StoreView) (old new : Session) (own : OwnTransaction) (t
 scanned_rows store old new own table state commits writes is some' s o =
     let owns = own_stands store old own is some' in
     let mine : old.session ≡ own.session = sym owns.0 in
+    let whole = whole_log (shape_in store) old.session (seen old) (seen new) s.made s.went.stretch in
     ap (contents_of table) s.rows
-    ∙ reads_tell_the_rows (shape_in store) (seen old) (seen new) s.made own table commits writes (measures_of store old is)
-    s.went.session.lawful s.went.goes_on
-    (subst (λ q. StandsUnder q (seen new)) mine (under_of store old.session new s.went.session s.went.same))
+    ∙ reads_tell_the_rows (shape_in store) (seen old) whole s.made own table commits writes (measures_of store old is)
+    (whole_lawful (shape_in store) old.session (seen old) (seen new) s.made s.went.stretch s.went.session.lawful) (as_log s.went.stretch.trace, refl)
+    (subst (λ q. StandsUnder q whole) mine (whole_under (shape_in store) old.session (seen old) (seen new) s.made s.went.stretch (under_of store old.session new s.went.session s.went.same)))
     (subst (λ (parts : Parts). OwnsAll (shape_in store) own parts) (replay_same (shape_in store) old.pass.seat.me.0.log) owns.1)
     (subst (λ q. HasOpenIn q (machine_of store old) commits writes) mine o.has)
-    (subst (λ q. own_in (shape_in store) q (seen new) ≡ own_in (shape_in store) q (seen old) ++ s.made) mine s.went.own)
+    (subst (λ q. own_in (shape_in store) q whole ≡ own_in (shape_in store) q (seen old) ++ s.made) mine (whole_own (shape_in store) old.session (seen old) (seen new) s.made s.went.stretch))
     s.events (plain_granted s.made s.plain)
 
 pub scan_finds : {E : Type 0} (store : StoreView) (old new : Session) (own : OwnTransaction) (table : ℕ) (state : State) (found : Result (List Row) E)

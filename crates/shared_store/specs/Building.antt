@@ -8,8 +8,8 @@ use Rattle.run_spec.specs.Handed.{own_in}
 use Rattle.store_laws.specs.Logs.{log_of, store_meaning}
 use Rattle.store_laws.specs.Own.{StandsUnder}
 use Rattle.shared_store.specs.Making.{parts_seen}
-use Rattle.shared_store.specs.Store.{HandsView, IsSession, SeatView, StoreView, events_made, own_of}
-use Rattle.shared_store.specs.Store.{seen, shape_in, taken_by}
+use Rattle.shared_store.specs.Store.{HandsView, IsFree, IsSession, SeatView, StoreView, events_made}
+use Rattle.shared_store.specs.Store.{own_of, seen, shape_in, taken_by}
 use Rattle.shared_store.specs.declared.session.Session.{Session}
 
 -- The first pass, while it has the sessions 1 to `count`: it made no event and took no part, and as
@@ -23,6 +23,7 @@ pub record HasSessions (store : StoreView) (count : ℕ) (seat : SeatView) (hand
   pub few : count ≤ (shape_in store).passes
   pub mine : seat.me.0.mine ≡ []
   pub taken : seat.me.0.taken ≡ []
+  pub free : seat.me.0.claim ≡ 0
   pub under : (session : ℕ) → StandsUnder session (log_of seat.me.0.log)
   pub rests : (session : ℕ)
       → transaction (shape_in store) (parts_seen (shape_in store) seat.me.0) session ≡ None
@@ -35,6 +36,7 @@ pub record IsNewSession (store : StoreView) (number : ℕ) (s : Session) : Type 
   pub made : events_made s ≡ 0
   pub none : own_in (shape_in store) number (seen s) ≡ []
   pub taken : taken_by s ≡ []
+  pub free : IsFree s
 
 -- All sessions of a store that was just built, in the order of their numbers, from 1 on.
 pub record IsNewRow (store : StoreView) (count : ℕ) (row : List Session) : Type 0 where

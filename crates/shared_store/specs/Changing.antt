@@ -3,10 +3,11 @@
 use Rattle.std.specs.Prelude.{◌≡◌, ℕ, ◌+◌, ◌<◌, ◌^◌, true, false, List, [], ◌∷◌, ◌++◌, Option, None}
 use Rattle.std.specs.Prelude.{IfSome, Some, if◌then◌else◌, option_map, length}
 use Rattle.std.specs.BTreeMap.{insert_entry}
-use Rattle.std.specs.List.{last_or, list_any}
+use Rattle.std.specs.List.{last_or, list_all, list_any}
 use Rattle.block_spec.specs.Slots.{Row}
 use Rattle.core_laws.specs.Events.Laws.{command_in}
 use Rattle.core_laws.specs.Following.Laws.{command_of}
+use Rattle.core_laws.specs.Words.Words.{thawed_part}
 use Rattle.event_spec.specs.declared.event.Event.TheVariants as event
 use Rattle.event_spec.specs.declared.own.OwnKey.{OwnKey}
 use Rattle.event_spec.specs.declared.own.OwnTransaction.{OwnTransaction}
@@ -17,7 +18,7 @@ use Rattle.event_spec.specs.Replies.{CoreReply, reply_to}
 use Rattle.event_spec.specs.Touched.{touched, touching}
 use Rattle.hall_rule.specs.Hands.{Covers}
 use Rattle.hall_rule.specs.declared.view.View.{View}
-use Rattle.hall_steps.specs.Hall.{first_of}
+use Rattle.hall_steps.specs.Hall.{SameClaim, first_of}
 use Rattle.isolation_spec.specs.Contents.{History, WriteSet, place_cmp, place_of}
 use Rattle.isolation_spec.specs.declared.command.Act.TheVariants as act
 use Rattle.isolation_spec.specs.declared.command.Command.{Command as Asked}
@@ -32,9 +33,10 @@ use Rattle.run_spec.specs.Told.{last_told, line_of, refusal_of}
 use Rattle.store_laws.specs.Laws.{IsOfSession}
 use Rattle.store_laws.specs.Logs.{log_of}
 use Rattle.store_laws.specs.Machines.{HasOpenIn, machine_after}
+use Rattle.store_laws.specs.Stretches.{is_event}
 use Rattle.workload_spec.specs.declared.command.Command.{Command}
-use Rattle.shared_store.specs.Store.{EndsWithLast, HandsView, IsAt, IsWithin, SeatView, StoreView}
-use Rattle.shared_store.specs.Store.{TookPartsOf, shape_in}
+use Rattle.shared_store.specs.Store.{EndsWithLast, HandsView, IsAt, IsWithin, SeatView}
+use Rattle.shared_store.specs.Store.{StoreView, TookPartsOf, shape_in}
 use Rattle.shared_store.specs.Writing.{IsWriteReply, is_written}
 
 -- ---- what is asked
@@ -46,6 +48,7 @@ pub record IsChangeOf
     : Type 0 where
   pub handed : OwnKey
   pub mine : IsOfSession session write
+  pub thawless : thawed_part shape write ≡ None
   pub table : HasTable shape place.table
   pub touches : (held : Name → Option CorePart) (name : Name)
       → touched shape held write name
@@ -126,6 +129,8 @@ pub record MakesChange
   pub own : own_in shape session (log_of new.log) ≡ own_in shape session (log_of old.log) ++ made
   pub count : length new.mine ≡ length old.mine + length made
   pub ends : EndsWithLast made (log_of new.log)
+  pub reads : SameClaim old new
+  pub events : list_all is_event made ≡ true
   pub writes : (change : Option Row) → IsChangeTo session place change write
       → WritesAlong shape session (log_of old.log) (log_of new.log) place change told
 

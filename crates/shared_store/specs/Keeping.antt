@@ -2,6 +2,7 @@
 -- and what it tells.
 use Rattle.std.specs.Prelude.{◌≡◌, ℕ, ◌%◌, ◌||◌, Bool, true, false, List, Option, None, Some, map}
 use Rattle.std.specs.Prelude.{slice_get}
+use Rattle.core_laws.specs.Words.Words.{thawed_part}
 use Rattle.event_spec.specs.declared.own.OwnTransaction.{OwnTransaction}
 use Rattle.event_spec.specs.Effects.{CoreEvent}
 use Rattle.event_spec.specs.Lawful.{HasBlock, Stands}
@@ -10,11 +11,12 @@ use Rattle.event_spec.specs.Parts.{same_name}
 use Rattle.event_spec.specs.Replies.{CoreReply}
 use Rattle.event_spec.specs.Touched.{is_shard_in, passes_test, touched}
 use Rattle.hall_rule.specs.Hands.{Holds}
-use Rattle.hall_steps.specs.Hall.{first_of}
+use Rattle.hall_steps.specs.Hall.{SameClaim, first_of}
 use Rattle.run_spec.specs.Opened.{own_behind}
 use Rattle.store_laws.specs.Laws.{IsOfSession}
 use Rattle.shared_store.specs.Making.{FitsEach, IsFew, Makes, Takes, parts_seen}
-use Rattle.shared_store.specs.Store.{HandsView, IsWithin, SeatView, StoreView, own_of, shape_in}
+use Rattle.shared_store.specs.Store.{HandsView, IsWithin, SeatView, StoreView, own_of}
+use Rattle.shared_store.specs.Store.{shape_in}
 use Rattle.shared_store.specs.declared.keeping.OnBlocks.{OnBlocks}
 use Rattle.shared_store.specs.declared.keeping.OnBlocks.TheVariants.{Observe, Prune}
 use Rattle.shared_store.specs.declared.session.Session.{Session}
@@ -119,6 +121,7 @@ pub record GivesPart
   pub log : new.me.0.log ≡ old.me.0.log
   pub mine : new.me.0.mine ≡ old.me.0.mine
   pub taken : new.me.0.taken ≡ old.me.0.taken
+  pub reads : SameClaim old.me.0 new.me.0
 
 abbrev pub GivesAnyPart : StoreView → SeatView → HandsView → SeatView → HandsView → Type 0
 GivesAnyPart store old hands new later = (session : ℕ) (own : Option OwnTransaction)
@@ -138,6 +141,7 @@ pub record MayMakeKeeping
   pub on : IsOnBlock (shape_in store) common table block event
   pub keeps : (block ≡ 0 → ⊥) → Keeps (shape_in store) common (first_of hands)
   pub mine : IsOfSession session event
+  pub thawless : thawed_part (shape_in store) event ≡ None
   pub stands : Stands (shape_in store) event (parts_seen (shape_in store) seat.me.0)
   pub fits : FitsEach (shape_in store) event
   pub few : IsFew seat.me.0

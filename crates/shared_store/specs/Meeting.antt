@@ -6,8 +6,8 @@ use Rattle.hall_rule.specs.declared.view.View.{View}
 use Rattle.run_spec.specs.Handed.{GoesOn, own_in}
 use Rattle.store_laws.specs.Laws.{SeesOn}
 use Rattle.shared_store.specs.Open.{StaysOpen}
-use Rattle.shared_store.specs.Store.{HandsView, IsAt, IsSession, SeatView, StoreView, events_made}
-use Rattle.shared_store.specs.Store.{own_of, seen, shape_in, taken_by}
+use Rattle.shared_store.specs.Store.{HandsView, IsAt, IsSession, KeepsLend, SeatView, StoreView}
+use Rattle.shared_store.specs.Store.{events_made, own_of, seen, shape_in, taken_by, view_of}
 use Rattle.shared_store.specs.declared.session.Session.{Session}
 
 -- ---- a pass
@@ -45,4 +45,5 @@ pub record Meets (store : StoreView) (old new : Session) : Type 0 where
       ≡ own_in (shape_in store) old.session (seen old)
   pub made : events_made new ≡ events_made old
   pub taken : taken_by new ≡ taken_by old
+  pub reads : KeepsLend (view_of old) (view_of new)
   pub is_open : StaysOpen store old new

@@ -10,11 +10,12 @@ use Rattle.event_spec.specs.Replies.{CoreReply}
 use Rattle.isolation_spec.specs.Contents.{State, place_cmp, place_of}
 use Rattle.run_spec.specs.Asked.{at_blocks}
 use Rattle.run_spec.specs.Calls.{is_final, is_memory, is_refused}
-use Rattle.run_spec.specs.Handed.{own_in}
 use Rattle.run_spec.specs.Occurrences.{Occurrence, events_in, replies_in}
 use Rattle.run_spec.specs.Told.{is_shared, rows_told}
 use Rattle.shared_store.specs.Reading.{ReadsBlock, Went}
-use Rattle.shared_store.specs.Store.{StoreView, seen, shape_in}
+use Rattle.workload_spec.specs.declared.command.Command.TheVariants as command
+use Rattle.workload_spec.specs.declared.reply.Said.{Said}
+use Rattle.shared_store.specs.Store.{Answers, IsFree, StoreView, shape_in}
 use Rattle.shared_store.specs.declared.session.Session.{Session}
 
 -- rows of a table, each laid in the place of its key
@@ -29,16 +30,18 @@ scan_cost shape table replies =
     slots_of shape table * count_by (λ told. not (is_shared told)) replies
     + length (flat_map rows_told replies)
 
--- A block was read, and with Ok its rows were laid.
+-- A block was read, and with Ok its rows were laid. Nothing is lent behind it.
 pub record ReadsInto
     {T E : Type 0} (store : StoreView) (old new : Session) (own : OwnTransaction) (table at : ℕ)
     (before now : State) (spent steps : ℕ) (result : Result T E)
     : Type 0 where
   pub told : CoreReply
   pub reads : ReadsBlock store old new own table at told
+  pub free : IsFree new
   pub granted : OnOk result (is_memory told ≡ false)
   pub laid : OnOk result (now ≡ laid table before (rows_told told))
   pub few : steps ≤ spent + scan_cost (shape_in store) table (told ∷ [])
+  pub unlooked : reads.made ≡ [] → steps ≤ spent
 
 -- none was refused memory, and none is one that ends a call
 abbrev pub ArePlain : List Occurrence → Type 0
@@ -56,9 +59,9 @@ pub record Scans
   pub plain : ArePlain made
   pub rows : state ≡ laid table [] (flat_map rows_told (replies_in made))
 
--- What the session's events since were told bounds the steps since.
-pub record ReadsOnce (store : StoreView) (old new : Session) (table spent steps : ℕ) : Type 0 where
-  pub made : List Occurrence
-  pub own : own_in (shape_in store) old.session (seen new)
-      ≡ own_in (shape_in store) old.session (seen old) ++ made
-  pub few : steps ≤ spent + scan_cost (shape_in store) table (replies_in made)
+-- What the session's reads were told bounds the steps of a scan that told this line.
+pub record ReadsOnce
+    (store : StoreView) (old new : Session) (table : ℕ) (told : Said) (spent steps : ℕ)
+    : Type 0 where
+  pub answers : Answers store old new (command.Scan table) told
+  pub few : steps ≤ spent + scan_cost (shape_in store) table (replies_in answers.made)

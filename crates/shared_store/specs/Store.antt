@@ -1,6 +1,6 @@
 -- What a store and its sessions are, between two calls.
-use Rattle.std.specs.Prelude.{◌≡◌, ℕ, ◌+◌, ◌<◌, ◌≤◌, ◌^◌, true, false, List, [], ◌∷◌, ◌++◌, All}
-use Rattle.std.specs.Prelude.{Option, Some, IfSome, None, length, map, option_map}
+use Rattle.std.specs.Prelude.{◌≡◌, ◌≢◌, ℕ, ◌+◌, ◌<◌, ◌≤◌, ◌^◌, true, false, List, [], ◌∷◌, ◌++◌, All}
+use Rattle.std.specs.Prelude.{Option, Some, IfSome, None, count_by, length, map, option_map}
 use Rattle.std.specs.List.{last_or}
 use Rattle.atomic_table.specs.declared.shared.Seat.{Seat}
 use Rattle.engine_core.specs.Core.{CoreState, IsOpening}
@@ -13,7 +13,7 @@ use Rattle.event_spec.specs.Touched.{touching}
 use Rattle.hall_rule.specs.EventLog.{has}
 use Rattle.hall_rule.specs.Hands.{Holds}
 use Rattle.hall_rule.specs.declared.view.View.{View}
-use Rattle.hall_steps.specs.Hall.{HallView, IsPass, first_of}
+use Rattle.hall_steps.specs.Hall.{HallView, IsPassAt, first_of}
 use Rattle.isolation_spec.specs.Contents.{PlaceMap}
 use Rattle.run_spec.specs.Asked.{events_of}
 use Rattle.run_spec.specs.Handed.{Called, GoesOn, own_in}
@@ -21,9 +21,12 @@ use Rattle.run_spec.specs.Occurrences.{Logged, Occurrence}
 use Rattle.run_spec.specs.Opened.{own_after}
 use Rattle.store_laws.specs.Logs.{log_of, made_in, store_meaning}
 use Rattle.store_laws.specs.Own.{KnowsOwn, entry_of, parts_after}
+use Rattle.store_laws.specs.Stretches.{is_event, reads_block}
 use Rattle.txn_desk.specs.declared.Snapshot.{Snapshot}
 use Rattle.workload_spec.specs.declared.command.Command.{Command}
 use Rattle.workload_spec.specs.declared.reply.Said.{Said}
+use Rattle.workload_spec.specs.declared.reply.Said.TheVariants as said
+use Rattle.run_spec.specs.Calls.{is_refused}
 use Rattle.shared_store.specs.declared.session.Session.{Session}
 
 -- What contracts see of a store: its hall, with the core that it was built of.
@@ -47,13 +50,18 @@ SeatView = Seat (Option CorePart) (View CoreEvent)
 abbrev pub HandsView : Type 0
 HandsView = List (List (Option CorePart))
 
--- A session's pass, whatever it holds; the session has this open.
-pub record IsWithin
-    (store : StoreView) (session : ℕ) (seat : SeatView) (hands : HandsView)
+-- A session's pass, whatever it holds, which is about to thaw a part: `thawing` is one more than that
+-- part's number, or 0. The session has this open.
+pub record IsWithinAt
+    (thawing : ℕ) (store : StoreView) (session : ℕ) (seat : SeatView) (hands : HandsView)
     (own : Option OwnTransaction)
     : Type 0 where
-  pub pass : IsPass (store_meaning (shape_in store)) store.id seat hands
+  pub pass : IsPassAt (store_meaning (shape_in store)) thawing store.id seat hands
   pub knows : KnowsOwn (shape_in store) session seat.me.0 own
+
+-- The same of a pass that thaws none.
+abbrev pub IsWithin : StoreView → ℕ → SeatView → HandsView → Option OwnTransaction → Type 0
+IsWithin = IsWithinAt 0
 
 -- The same of a pass that holds no part.
 pub record IsAt
@@ -85,6 +93,20 @@ own_of s = option_map (opened_at s.session s.writes) s.snapshot
 -- the log as far as its pass saw it
 abbrev pub seen : Session → List Logged
 seen s = log_of s.pass.seat.me.0.log
+
+-- what its pass has seen and done
+abbrev pub view_of : Session → View CoreEvent
+view_of s = s.pass.seat.me.0
+
+-- The session has lent nothing.
+abbrev pub IsFree : Session → Type 0
+IsFree s = (view_of s).claim ≡ 0
+
+-- What a pass has lent, it has lent still: it has the same claim, on a block that was frozen with the
+-- same stamp.
+pub record KeepsLend (old new : View CoreEvent) : Type 0 where
+  pub claim : new.claim ≡ old.claim
+  pub claimed : new.claim ≢ 0 → new.claimed ≡ old.claimed
 
 -- how many events its pass made, and which parts it ever took
 abbrev pub events_made : Session → ℕ
@@ -141,20 +163,29 @@ pub record TookPartsOf
   pub took : later ≡ taken ++ parts
   pub touched : (part : ℕ) → has part parts ≡ true → IsTouched shape events old new part
 
--- The log ends with the last of these events, if there is one.
+-- The log ends with the last of these, if there is one and it is an event.
 abbrev pub EndsWithLast : List Occurrence → List Logged → Type 0
-EndsWithLast made log = IfSome (last_or None made) (λ last.
-    (before : List Logged) × (log ≡ before ++ entry_of last.session last.event last.reply ∷ []))
+EndsWithLast made log = IfSome (last_or None made) (λ last. is_event last ≡ true
+    → (before : List Logged) × (log ≡ before ++ entry_of last.session last.event last.reply ∷ []))
 
--- The session carried out the command and was told this line: these are the events that it made. It
--- took no other parts than those that the command's events touch.
+-- The log ends with the call's last event, if it ended with one: not with a lend, nor with one for
+-- which there was no memory.
+abbrev pub EndsCall : Said → List Occurrence → List Logged → Type 0
+EndsCall told made log = IfSome (last_or None made) (λ last. is_event last ≡ true
+    → (told ≡ said.Memory → reads_block last.event ≡ true → is_refused last ≡ true)
+    → (before : List Logged) × (log ≡ before ++ entry_of last.session last.event last.reply ∷ []))
+
+-- The session carried out the command and was told this line: these are the events that it made, and
+-- the reads for which it lent blocks. It took no other parts than those that the command's events
+-- touch, and has lent what it had lent.
 pub record Answers (store : StoreView) (old new : Session) (command : Command) (told : Said)
     : Type 0 where
   pub made : List Occurrence
   pub called : Called (shape_in store) false old.session (seen old) (seen new)
       (record { command = command; made = made; told = Some told })
-  pub count : events_made new ≡ events_made old + length made
-  pub ends : EndsWithLast made (seen new)
+  pub count : events_made new ≡ events_made old + count_by is_event made
+  pub ends : EndsCall told made (seen new)
+  pub reads : KeepsLend (view_of old) (view_of new)
   pub took : TookPartsOf
       (shape_in store)
       (events_of (shape_in store) (own_of old) old.session command made)

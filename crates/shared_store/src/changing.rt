@@ -46,7 +46,13 @@ impl Store {
 
     /// Changes a row on the parts that a pass holds: its block is thawed where it is imaged, and
     /// the change is made. Where there is no memory for the thaw, nothing is changed.
-    fn change_held(&self, pass: &mut Pass<Core>, place: Place, event: KeyedEvent) -> CoreReply
+    fn change_held<R: Wait>(
+        &self,
+        rt: &R,
+        pass: &mut Pass<Core>,
+        place: Place,
+        event: KeyedEvent,
+    ) -> CoreReply
         requires { MayChangeHeld self.now pass.old.seat pass.old.hands place event }
         ensures { ChangesAnyHeld self.now
             pass.old.seat pass.old.hands pass.new.seat pass.new.hands place event result }
@@ -54,11 +60,7 @@ impl Store {
         let Some(block) = self.imaged_at(pass, place) else {
             return self.make_on(pass, event);
         };
-        let thaw = KeyedEvent::new(Event::Thaw {
-            table: place.table,
-            block,
-        });
-        if let Reply::Memory = self.make_on(pass, thaw) {
+        if let Reply::Memory = self.thaw_held(rt, pass, place.table, block) {
             return Reply::Memory;
         }
         self.make_on(pass, event)
@@ -77,7 +79,7 @@ impl Store {
             pass.old.seat pass.old.hands pass.new.seat pass.new.hands place event result }
     {
         self.take_for(rt, pass, &event);
-        let told = self.change_held(pass, place, event);
+        let told = self.change_held(rt, pass, place, event);
         self.give_back(pass);
         told
     }

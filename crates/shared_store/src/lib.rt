@@ -8,8 +8,8 @@ pub mod changing;
 pub mod compacting;
 pub mod faults;
 pub mod freezing;
-mod frozen;
 pub mod keeping;
+pub mod lending;
 pub mod making;
 pub mod meeting;
 pub mod observing;
@@ -24,8 +24,8 @@ pub mod writing;
 
 pub use building::Built;
 pub use faults::{Busy, StoreFault};
-pub use frozen::FrozenRows;
-pub use reading::BlockRows;
+pub use lending::{Lend, LendFault};
+pub use reading::SeenBlock;
 pub use session::Session;
 pub use store::Store;
 

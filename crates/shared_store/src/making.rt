@@ -1,17 +1,20 @@
 //! Making an event: its parts are taken, it is made on them, and they are given back.
-ghost use Rattle.std.specs.Prelude.{◌≡◌, ◌<◌, ℕ, true};
+ghost use Rattle.std.specs.Prelude.{◌≡◌, ◌<◌, ◌++◌, ◌∷◌, [], ℕ, Some, true, slice_get};
 ghost use Rattle.event_spec.specs.Lawful.{HasBlock};
+ghost use Rattle.event_spec.specs.Parts.{BodyOf, names};
 ghost use Rattle.event_spec.specs.Touched.{touching};
 ghost use Rattle.hall_rule.specs.Hands.{Holds};
 ghost use Rattle.hall_steps.specs.Hall.{first_of};
 ghost use Rattle.shared_store.specs.Alone.{HoldsAlone, IsOnBody, TakesBody};
 ghost use Rattle.shared_store.specs.Making.{GivesAny, IsAtDesk, MakesAny, MakesAnyHeld, MayMake};
-ghost use Rattle.shared_store.specs.Making.{MayMakeHeld, ReadsFew, TakesAny};
+ghost use Rattle.shared_store.specs.Making.{MayMakeHeld, MayThawHeld, ReadsFew, TakesAny};
+ghost use Rattle.shared_store.specs.Making.{ThawsAnyHeld};
 ghost use Rattle.shared_store.specs.Store.{IsAnyAt, IsAnyWithin, shape_in};
 
 use crate::store::Store;
 use core_parts::KeyedEvent;
 use engine_core::{Core, CoreReply};
+use event_spec::Event;
 use hall_rule::Steps;
 use hall_steps::Pass;
 use std::marker::Brand;
@@ -73,6 +76,24 @@ impl Store {
             pass.old.seat pass.old.hands pass.new.seat pass.new.hands event result }
     {
         self.make_held_by::<Brand>(pass, event, Blank::new(1))
+    }
+
+    /// Thaws the imaged block whose body a pass holds: waits until no reader is in it, and makes the
+    /// event. Where memory is refused the block stays frozen.
+    pub(crate) fn thaw_held<R: Wait>(
+        &self,
+        rt: &R,
+        pass: &mut Pass<Core>,
+        table: u32,
+        block: u32,
+    ) -> CoreReply
+        requires { MayThawHeld self.now pass.old.seat pass.old.hands table block }
+        ensures { ThawsAnyHeld self.now
+            pass.old.seat pass.old.hands pass.new.seat pass.new.hands table block result }
+    {
+        let body = self.hall.shape().body(table, block);
+        self.hall.drain(rt, pass, body);
+        self.make_on(pass, KeyedEvent::new(Event::Thaw { table, block }))
     }
 
     /// Gives back all parts that a pass holds.
@@ -173,6 +194,8 @@ impl Store {
         ensures takes { TakesBody self.now
             pass.old.seat pass.old.hands pass.new.seat pass.new.hands table block }
         ensures alone { HoldsAlone (first_of pass.new.hands) result }
+        ensures number { slice_get (names (shape_in self.now)) result ≡ Some (BodyOf table block) }
+        ensures took { pass.new.seat.me.0.taken ≡ pass.old.seat.me.0.taken ++ result ∷ [] }
     {
         let body = self.hall.shape().body(table, block);
         self.hall.take(rt, pass, body);

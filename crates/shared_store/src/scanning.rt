@@ -10,11 +10,12 @@ ghost use Rattle.event_spec.specs.declared.own.OwnTransaction.{OwnTransaction as
 ghost use Rattle.isolation_spec.specs.Contents.{contents_of, place_cmp};
 ghost use Rattle.workload_spec.specs.declared.command.Command.TheVariants as command;
 ghost use Rattle.shared_store.specs.Open.{FindsRows};
-ghost use Rattle.shared_store.specs.Reading.{rows_in};
+ghost use Rattle.shared_store.specs.Reading.{GivesBack, HoldsSeen, rows_in};
 ghost use Rattle.shared_store.specs.Scanning.{ReadsInto, ReadsOnce, laid};
 ghost use Rattle.shared_store.specs.Store.{
   Answers,
   HasRoomFor,
+  IsFree,
   IsSession,
   MakesAtMost,
   most_blocks_in_table,
@@ -23,7 +24,7 @@ ghost use Rattle.shared_store.specs.Store.{
 };
 ghost use Rattle.shared_store.specs.Told.{scanned_told};
 
-use crate::reading::BlockRows;
+use crate::reading::SeenBlock;
 use crate::session::Session;
 use crate::store::Store;
 use crate::writing::place_of;
@@ -75,24 +76,6 @@ fn rows_of_form<L: Ledger>(
     }
 }
 
-/// The rows that a read told.
-fn rows_of_read<L: Ledger>(
-    alloc: Global,
-    read: BlockRows,
-    steps: &mut Steps<L>,
-) -> Result<Vec<Row>, AllocError>
-    ensures rows { IfOk result (λ rows. rows.items ≡ rows_in read) }
-    ensures steps { steps.new ≤ steps.old + length (rows_in read) }
-{
-    match read {
-        BlockRows::Rows(rows) => rows_of_form(alloc, rows.into_form(), steps),
-        BlockRows::Shared(shared) => {
-            let image = shared.image();
-            rows_of_columns(alloc, image.columns(), image.rows(), steps)
-        }
-    }
-}
-
 /// Lays a row in its place.
 fn lay_row(by_place: &mut BTreeMap<Place, Row>, place: Place, row: Row) -> Result<(), AllocError>
     ensures { OnOk result
@@ -139,6 +122,31 @@ fn rows_in_order(
 }
 
 impl Store {
+    /// The rows of a block that was seen; a lend is given back.
+    fn rows_of_seen<L: Ledger>(
+        &self,
+        session: &mut Session,
+        seen: SeenBlock,
+        steps: &mut Steps<L>,
+    ) -> Result<Vec<Row>, AllocError>
+        requires session { IsSession self.now session.old }
+        requires holds { HoldsSeen self.now session.old seen }
+        ensures rows { IfOk result (λ rows. rows.items ≡ rows_in seen) }
+        ensures gives { GivesBack self.now session.old session.new seen }
+        ensures steps { steps.new ≤ steps.old + length (rows_in seen) }
+    {
+        let alloc = self.hall.shape().alloc();
+        match seen {
+            SeenBlock::Rows(rows) => rows_of_form(alloc, rows.into_form(), steps),
+            SeenBlock::Lent(lend) => {
+                let image = lend.columns();
+                let rows = rows_of_columns(alloc, image.columns(), image.rows(), steps);
+                self.end_lend(session, lend);
+                rows
+            }
+        }
+    }
+
     /// Reads a block, and lays its rows in their places.
     fn read_into<R: Wait, L: Ledger>(
         &self,
@@ -150,6 +158,7 @@ impl Store {
         steps: &mut Steps<L>,
     ) -> Result<(), AllocError>
         requires session { IsSession self.now session.old }
+        requires free { IsFree session.old }
         requires room { HasRoomFor 1 session.old }
         requires busy { is_some (own_of session.old) ≡ true }
         requires block { HasBlock (shape_in self.now) table block }
@@ -157,10 +166,9 @@ impl Store {
             session.old session.new own table block by_place.old.entries by_place.new.entries
             steps.old steps.new result }
     {
-        let shape = self.hall.shape();
-        let read = self.read(rt, session, table, block, steps)?;
-        let rows = rows_of_read(shape.alloc(), read, steps)?;
-        lay_rows(shape.schema(table), table, rows, by_place)
+        let seen = self.see_block(rt, session, table, block, steps)?;
+        let rows = self.rows_of_seen(session, seen, steps)?;
+        lay_rows(self.hall.shape().schema(table), table, rows, by_place)
     }
 
     /// All rows of a table that the session's transaction sees, in the order of their keys. Each
@@ -178,6 +186,7 @@ impl Store {
         steps: &mut Steps<L>,
     ) -> Result<Rows, AllocError>
         requires session { IsSession self.now session.old }
+        requires free { IsFree session.old }
         requires room { HasRoomFor most_blocks_in_table session.old }
         requires busy { is_some (own_of session.old) ≡ true }
         requires table { table < length (shape_in self.now).tables }
@@ -188,7 +197,7 @@ impl Store {
         ensures finds { FindsRows self.now session.old session.new table result }
         ensures few { MakesAtMost most_blocks_in_table session.old session.new }
         ensures steps { ReadsOnce self.now
-            session.old session.new table steps.old steps.new }
+            session.old session.new table (scanned_told result) steps.old steps.new }
     {
         let shape = self.hall.shape();
         let mut by_place = BTreeMap::new(shape.alloc());
@@ -210,6 +219,7 @@ impl Store {
         table: u32,
     ) -> Result<Rows, AllocError>
         requires session { IsSession self.now session.old }
+        requires free { IsFree session.old }
         requires room { HasRoomFor most_blocks_in_table session.old }
         requires busy { is_some (own_of session.old) ≡ true }
         requires table { table < length (shape_in self.now).tables }
@@ -232,6 +242,7 @@ impl Store {
         blank: Blank,
     ) -> Result<Rows, AllocError>
         requires session { IsSession self.now session.old }
+        requires free { IsFree session.old }
         requires room { HasRoomFor most_blocks_in_table session.old }
         requires busy { is_some (own_of session.old) ≡ true }
         requires table { table < length (shape_in self.now).tables }

@@ -105,6 +105,23 @@ breaks_before columns blocks made o before now sent = record {
   breaks = inl (group_message columns (rows_told o.reply), sym (messages_more columns made o));
 }
 
+-- behind the messages of the blocks that were read
+pub breaks_there : (columns : List Column) (blocks : ℕ) (made : List Occurrence) (before now : Option (List ℕ)) → HasSent columns made before now → HasBroken columns blocks made before now
+breaks_there columns blocks made before now sent = record {
+  bytes = messages_of columns (groups_told made);
+  sent = sent;
+  breaks = inl ([], append-nil (messages_of columns (groups_told made)));
+}
+
+-- behind them, where what was to follow is nothing
+pub breaks_behind : (columns : List Column) (blocks : ℕ) (made : List Occurrence) (before between now : Option (List ℕ))
+    → HasSent columns made before between → AppendsFront between now [] → HasBroken columns blocks made before now
+breaks_behind columns blocks made before between now sent broken = record {
+  bytes = messages_of columns (groups_told made) ++ take broken.0 [];
+  sent = Appends-trans before between now (messages_of columns (groups_told made)) (take broken.0 []) sent broken.2;
+  breaks = inl (drop broken.0 [], rejoined (messages_of columns (groups_told made)) [] broken.0 ∙ append-nil (messages_of columns (groups_told made)));
+}
+
 -- within the last word, behind all blocks
 pub breaks_last : (columns : List Column) (blocks : ℕ) (made : List Occurrence) (before between now : Option (List ℕ)) → AreAllRead blocks made
     → HasSent columns made before between → AppendsFront between now end_word → HasBroken columns blocks made before now

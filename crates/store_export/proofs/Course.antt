@@ -15,7 +15,8 @@ use Rattle.cell_model.specs.declared.column.Column.{Column}
 use Rattle.event_spec.specs.declared.event.Event.TheVariants as event
 use Rattle.event_spec.specs.declared.own.OwnTransaction.{OwnTransaction}
 use Rattle.event_spec.specs.Effects.{CoreEvent}
-use Rattle.event_spec.specs.Parts.{Shape, below, blocks_of, slots_of}
+use Rattle.event_spec.specs.declared.reply.Reply.TheVariants as reply
+use Rattle.event_spec.specs.Parts.{Parts, Shape, below, blocks_of, slots_of}
 use Rattle.event_spec.specs.Replay.{columns_in}
 use Rattle.event_spec.specs.Replies.{CoreReply}
 use Rattle.export_spec.specs.Calls.{AreAllRead, BreaksOff, groups_told}
@@ -28,13 +29,14 @@ use Rattle.run_spec.specs.Calls.{Call, IsCallBy, IsPart, IsWhole, is_cut_short, 
 use Rattle.run_spec.specs.Occurrences.{Occurrence, events_in, replies_in}
 use Rattle.run_spec.specs.Opened.{least_written}
 use Rattle.run_spec.specs.Told.{is_shared, is_some_row, refusal_of, rows_told, summary_of}
-use Rattle.shared_store.specs.Reading.{ReadsBlock, Went}
+use Rattle.shared_store.specs.Reading.{IsReadOf, ReadsBlock, Went}
 use Rattle.shared_store.specs.Scanning.{ArePlain}
-use Rattle.shared_store.specs.Store.{Answers, IsSession, StoreView, TookPartsOf, own_of, seen, shape_in, taken_by}
+use Rattle.shared_store.specs.Store.{Answers, IsFree, IsSession, KeepsLend, StoreView, TookPartsOf, own_of, seen, shape_in, taken_by, view_of}
 use Rattle.shared_store.specs.declared.session.Session.{Session}
-use Rattle.shared_store.proofs.Calls.{refused_call, took_none}
+use Rattle.shared_store.proofs.Calls.{ends_call, refused_call, took_none}
+use Rattle.shared_store.proofs.Claims.{keeps_none, keeps_stays}
 use Rattle.shared_store.proofs.Counted.{count_more, count_one, le_more, rows_all, rows_more, rows_one, sum_steps}
-use Rattle.shared_store.proofs.Scanned.{below_more, is_asked, plain_added, plain_cut, plain_cut_behind, plain_granted, read_at, rest_of, went_nowhere, went_on}
+use Rattle.shared_store.proofs.Scanned.{below_more, is_asked, one_read, plain_added, plain_cut, plain_cut_behind, plain_granted, plain_reads, read_at, rest_of, unlent_call, went_nowhere, went_on}
 use Rattle.workload_spec.specs.declared.command.Command.TheVariants as command
 use Rattle.workload_spec.specs.declared.reply.Said.{Said}
 use Rattle.workload_spec.specs.declared.reply.Said.TheVariants as said
@@ -45,7 +47,11 @@ use Rattle.store_export.specs.declared.exporting.ExportFault.{ExportFault}
 use Rattle.store_export.specs.declared.exporting.ExportFault.TheVariants as export_fault
 use Rattle.store_export.specs.declared.exporting.Summary.{Summary}
 use Rattle.store_export.specs.declared.sent.Sent.{Sent}
-use Rattle.store_export.proofs.Breaking.{HasBroken, HasSent, breaks_before, breaks_first, breaks_last, breaks_nowhere, breaks_within, sending_begins, sending_ends, sending_goes_on}
+use Rattle.store_export.proofs.Breaking.{HasBroken, HasSent, breaks_before, breaks_behind, breaks_first, breaks_last, breaks_nowhere, breaks_there, breaks_within, sending_begins, sending_ends, sending_goes_on}
+
+-- An event of a session at these parts, with its reply.
+abbrev event_at : ℕ → Parts → CoreEvent → CoreReply → Occurrence
+event_at session parts event told = record { session = session; before = parts; event = event; reply = told }
 
 -- ---- what replies count
 
@@ -219,15 +225,16 @@ module _ (store : StoreView) (own : OwnTransaction) (t : ℕ) where
 
   -- one read more
   module _ (old mid new : Session) (k : ℕ) (before between : Option (List ℕ)) (sent : Sent) (spent steps : ℕ) (told : CoreReply)
-      (s : Sending store old mid own t k before between sent spent steps) (r : ReadsBlock store mid new own t k told) (lt : k < blocks_of sh t) where
+      (s : Sending store old mid own t k before between sent spent steps) (r : ReadsBlock store mid new own t k told) (keeps : KeepsLend (view_of mid) (view_of new))
+      (parts : Parts) (one : r.made ≡ event_at mid.session parts (event.Read own t k) told ∷ []) (lt : k < blocks_of sh t) where
     abbrev next : Occurrence
-    next = read_at store old mid new own t k told r
+    next = read_at old own t k parts told
 
     abbrev further : List Occurrence
     further = s.made ++ next ∷ []
 
     went_further : Went store old new asked further
-    went_further = went_on store old mid new own t k told asked s.made s.went r (is_asked store own t k lt)
+    went_further = went_on store old mid new own t k told asked s.made s.went r (is_asked store own t k lt) keeps parts one
 
     events_further : events_in further ≡ map (event.Read own t) (below (k + 1))
     events_further =
@@ -244,12 +251,12 @@ module _ (store : StoreView) (own : OwnTransaction) (t : ℕ) where
     rows_further : rows_all (replies_in further) ≡ rows_all (replies_in s.made) + rows_all (told ∷ [])
     rows_further = ap rows_all replies_further ∙ rows_more (replies_in s.made) told
 
-    -- one block more is read, and its group is sent
-    pub sending_more : (now : Option (List ℕ)) (more later : Sent) (steps_later : ℕ) → is_memory told ≡ false → slots_of sh t ≤ 2 ^ 15
+    -- One block more is read, and its group is sent.
+    sending_on : (now : Option (List ℕ)) (more later : Sent) (steps_later : ℕ) → is_memory told ≡ false → slots_of sh t ≤ 2 ^ 15
         → Appends between now (group_message columns (rows_told told)) → more ≡ counted (told ∷ []) → steps_later ≤ steps + slots_of sh t * (1 - count_by is_shared (told ∷ []))
         → later.rows ≡ sent.rows + more.rows → later.batches ≡ sent.batches + more.batches → later.frozen ≡ sent.frozen + more.frozen
         → Sending store old new own t (k + 1) before now later spent steps_later
-    sending_more now more later steps_later granted slots gone counts few rows batches frozen =
+    sending_on now more later steps_later granted slots gone counts few rows batches frozen =
         let rows_told_now : more.rows ≡ rows_all (told ∷ []) = ap (λ (x : Sent). x.rows) counts in
         let batch_now : more.batches ≡ count_by with_row (told ∷ []) = ap (λ (x : Sent). x.batches) counts in
         let frozen_now : more.frozen ≡ count_by is_shared (told ∷ []) = ap (λ (x : Sent). x.frozen) counts in
@@ -280,6 +287,16 @@ module _ (store : StoreView) (own : OwnTransaction) (t : ℕ) where
               (steps_more (slots_of sh t) spent steps steps_later k sent.frozen more.frozen s.frozen_few frozen_few s.steps_few few_by_more);
         }
 
+  -- one block more is read, and its group is sent
+  pub sending_more : {W : Type 0} (written : W → Option (List ℕ)) (faults : W → ℕ) (old mid new : Session) (k : ℕ) (before : Option (List ℕ)) (between now : WriterView W) (sent more later : Sent) (spent steps steps_later : ℕ)
+      → Sending store old mid own t k before (written between.sink) sent spent steps → SendsBlock store mid new own t k written faults between now steps steps_later (Ok more) → IsFree mid → k < blocks_of sh t
+      → later.rows ≡ sent.rows + more.rows → later.batches ≡ sent.batches + more.batches → later.frozen ≡ sent.frozen + more.frozen
+      → Sending store old new own t (k + 1) before (written now.sink) later spent steps_later
+  sending_more written faults old mid new k before between now sent more later spent steps steps_later s b free lt rows batches frozen =
+      let one = one_read mid.session own t k b.told b.reads.made b.reads.is_read b.granted in
+      sending_on old mid new k before (written between.sink) sent spent steps b.told s b.reads (keeps_none free b.free) one.0 one.1 lt
+      (written now.sink) more later steps_later b.granted b.slots b.writes.bytes b.counts b.few rows batches frozen
+
   -- ---- how it ends
 
   -- an export with these events and this line
@@ -301,48 +318,60 @@ module _ (store : StoreView) (own : OwnTransaction) (t : ℕ) where
       record {
         made = made;
         called = record {
-          goes_on = w.goes_on;
-          made = w.own;
+          stretch = w.stretch;
           is_call = subst (λ o. IsCallBy sh false old.session o (refusal_of (command.Export t) o) (export_call made line)) is.own
               (subst (λ r. IsCallBy sh false old.session (own_of old) r (export_call made line)) (sym granted_here) either);
         };
         count = w.count;
-        ends = w.ends;
+        ends = ends_call line made (seen new) w.ends;
+        reads = w.reads;
         took = subst (λ es. TookPartsOf sh es (seen old) (seen new) (taken_by old) (taken_by new)) (sym (asks made)) w.took;
       },
       refl,
     )
 
-    -- memory was wanting behind some reads
-    part_call : (new : Session) (n : ℕ) (made : List Occurrence) → n ≤ blocks_of sh t → Went store old new asked made → events_in made ≡ map (event.Read own t) (below n)
-        → is_cut_short made ≡ true → (a : Answers store old new (command.Export t) said.Memory) × (a.made ≡ made)
-    part_call new n made le w events cut = answered new made said.Memory w (inr (record {
+    -- Some reads are a call that is cut short.
+    is_part : (n : ℕ) (made : List Occurrence) → n ≤ blocks_of sh t → events_in made ≡ map (event.Read own t) (below n) → is_cut_short made ≡ true
+        → IsPart sh old.session (own_of old) (export_call made said.Memory)
+    is_part n made le events cut = record {
       may = refl;
       missed = map (event.Read own t) (rest_of (blocks_of sh t) n le).0;
       events = asks made ∙ ap (map (event.Read own t)) (rest_of (blocks_of sh t) n le).1 ∙ map-append (event.Read own t) (below n) (rest_of (blocks_of sh t) n le).0
           ∙ ap (λ es. es ++ map (event.Read own t) (rest_of (blocks_of sh t) n le).0) (sym events);
       cut = cut;
       line = refl;
-    }))
+    }
 
+    -- memory was wanting behind some reads
+    part_call : (new : Session) (n : ℕ) (made : List Occurrence) → n ≤ blocks_of sh t → Went store old new asked made → events_in made ≡ map (event.Read own t) (below n)
+        → is_cut_short made ≡ true → (a : Answers store old new (command.Export t) said.Memory) × (a.made ≡ made)
+    part_call new n made le w events cut = answered new made said.Memory w (inr (is_part n made le events cut))
+
+    -- An export that was told so of these reads broke off.
+    broke_by : (new : Session) (n : ℕ) (made : List Occurrence) (before now : Option (List ℕ)) (spent steps : ℕ) → n ≤ blocks_of sh t
+        → (a : Answers store old new (command.Export t) said.Memory) × (a.made ≡ made) → IsSession store new → new.session ≡ old.session → own_of new ≡ own_of old
+        → HasBroken columns (blocks_of sh t) made before now
+        → steps ≤ spent + slots_of sh t * (n - count_by is_shared (replies_in made)) → ExportsCounted store old new t said.Memory before now spent steps
+    broke_by new n made before now spent steps le a session same opened broken few = record {
+      exports = record {
+        session = session;
+        same = same;
+        opened = opened;
+        answers = a.0;
+        bytes = broken.bytes;
+        sent = broken.sent;
+        sends = subst (λ (os : List Occurrence). BreaksOff columns (blocks_of sh t) os broken.bytes) (sym a.1) broken.breaks;
+      };
+      few = subst (λ (os : List Occurrence). steps ≤ spent + slots_of sh t * (blocks_of sh t - count_by is_shared (replies_in os))) (sym a.1)
+          (steps_rest (slots_of sh t) spent steps n (blocks_of sh t) (count_by is_shared (replies_in made)) le few);
+    }
+
+    -- It broke off behind these reads.
     broke : (new : Session) (n : ℕ) (made : List Occurrence) (before now : Option (List ℕ)) (spent steps : ℕ) → n ≤ blocks_of sh t → Went store old new asked made
         → events_in made ≡ map (event.Read own t) (below n) → is_cut_short made ≡ true → HasBroken columns (blocks_of sh t) made before now
         → steps ≤ spent + slots_of sh t * (n - count_by is_shared (replies_in made)) → ExportsCounted store old new t said.Memory before now spent steps
     broke new n made before now spent steps le w events cut broken few =
-        let a = part_call new n made le w events cut in
-        record {
-          exports = record {
-            session = w.session;
-            same = w.same;
-            opened = w.opened;
-            answers = a.0;
-            bytes = broken.bytes;
-            sent = broken.sent;
-            sends = subst (λ (os : List Occurrence). BreaksOff columns (blocks_of sh t) os broken.bytes) (sym a.1) broken.breaks;
-          };
-          few = subst (λ (os : List Occurrence). steps ≤ spent + slots_of sh t * (blocks_of sh t - count_by is_shared (replies_in os))) (sym a.1)
-              (steps_rest (slots_of sh t) spent steps n (blocks_of sh t) (count_by is_shared (replies_in made)) le few);
-        }
+        broke_by new n made before now spent steps le (part_call new n made le w events cut) w.session w.same w.opened broken few
 
     -- the schema's message failed
     pub schema_broke : {W : Type 0} (T : Type 0) (written : W → Option (List ℕ)) (faults : W → ℕ) (start now : WriterView W) (spent : ℕ) (fault : PieceFault)
@@ -359,26 +388,72 @@ module _ (store : StoreView) (own : OwnTransaction) (t : ℕ) where
             by false failed = breaks_first columns (blocks_of sh t) (written start.sink) (written now.sink) failed.2
         go (Memory refused) failed = subst (λ (w : WriterView W). HasBroken columns (blocks_of sh t) [] (written start.sink) (written w.sink)) (sym failed.1) (breaks_nowhere columns (blocks_of sh t) (written start.sink))
 
-    -- a read found no memory, or a block's message failed
-    pub block_broke : {W : Type 0} (written : W → Option (List ℕ)) (faults : W → ℕ) (mid new : Session) (k : ℕ) (before : Option (List ℕ)) (between now : WriterView W) (sent : Sent) (spent steps later : ℕ)
-        (fault : PieceFault) → Sending store old mid own t k before (written between.sink) sent spent steps → between.failed ≡ false → k < blocks_of sh t
-        → SendsBlock store mid new own t k written faults between now steps later (Err fault) → ExportsCounted store old new t said.Memory before (written now.sink) spent later
-    block_broke {W} written faults mid new k before between now sent spent steps later fault s fresh lt b =
-        let last = read_at store old mid new own t k b.told b.reads in
+    -- A block was read or lent, and its message failed, or a read was refused memory.
+    read_broke : {W : Type 0} (written : W → Option (List ℕ)) (faults : W → ℕ) (mid new : Session) (k : ℕ) (before : Option (List ℕ)) (between now : WriterView W) (sent : Sent) (spent steps later : ℕ)
+        (fault : PieceFault) → Sending store old mid own t k before (written between.sink) sent spent steps → between.failed ≡ false → IsFree mid → k < blocks_of sh t
+        → (b : SendsBlock store mid new own t k written faults between now steps later (Err fault))
+        → (parts : Parts) → b.reads.made ≡ event_at mid.session parts (event.Read own t k) b.told ∷ [] → ExportsCounted store old new t said.Memory before (written now.sink) spent later
+    read_broke {W} written faults mid new k before between now sent spent steps later fault s fresh free lt b parts one =
+        let last = read_at old own t k parts b.told in
+        let keeps : KeepsLend (view_of mid) (view_of new) = keeps_none free b.free in
         let few = steps_more (slots_of sh t) spent steps later k sent.frozen (count_by is_shared (b.told ∷ [])) s.frozen_few (count_one is_shared b.told) s.steps_few b.few in
         broke new (k + 1) (s.made ++ last ∷ []) before (written now.sink) spent later (omega (arith, lt))
-        (went_further old mid new k before (written between.sink) sent spent steps b.told s b.reads lt)
-        (events_further old mid new k before (written between.sink) sent spent steps b.told s b.reads lt)
+        (went_further old mid new k before (written between.sink) sent spent steps b.told s b.reads keeps parts one lt)
+        (events_further old mid new k before (written between.sink) sent spent steps b.told s b.reads keeps parts one lt)
         (plain_cut_behind s.made last s.plain refl)
         (go fault b.writes)
-        (subst (λ n. later ≤ spent + slots_of sh t * ((k + 1) - n)) (ap (λ n. n + count_by is_shared (b.told ∷ [])) s.frozen_are ∙ sym (counted_further old mid new k before (written between.sink) sent spent steps b.told s b.reads lt is_shared)) few)
+        (subst (λ n. later ≤ spent + slots_of sh t * ((k + 1) - n))
+        (ap (λ n. n + count_by is_shared (b.told ∷ [])) s.frozen_are ∙ sym (counted_further old mid new k before (written between.sink) sent spent steps b.told s b.reads keeps parts one lt is_shared)) few)
       where
         go : (fault : PieceFault) → MakesPiece {T = Sent} written faults between now (group_message columns (rows_told b.told)) (Err fault)
-            → HasBroken columns (blocks_of sh t) (s.made ++ read_at store old mid new own t k b.told b.reads ∷ []) before (written now.sink)
-        go (Sink sink) failed = breaks_within columns (blocks_of sh t) s.made (read_at store old mid new own t k b.told b.reads) before (written between.sink) (written now.sink) s.gone
+            → HasBroken columns (blocks_of sh t) (s.made ++ read_at old own t k parts b.told ∷ []) before (written now.sink)
+        go (Sink sink) failed = breaks_within columns (blocks_of sh t) s.made (read_at old own t k parts b.told) before (written between.sink) (written now.sink) s.gone
             (sink_fails written faults between now (group_message columns (rows_told b.told)) sink.earlier fresh failed).1
-        go (Memory refused) failed = subst (λ (w : WriterView W). HasBroken columns (blocks_of sh t) (s.made ++ read_at store old mid new own t k b.told b.reads ∷ []) before (written w.sink)) (sym failed.1)
-            (breaks_before columns (blocks_of sh t) s.made (read_at store old mid new own t k b.told b.reads) before (written between.sink) s.gone)
+        go (Memory refused) failed = subst (λ (w : WriterView W). HasBroken columns (blocks_of sh t) (s.made ++ read_at old own t k parts b.told ∷ []) before (written w.sink)) (sym failed.1)
+            (breaks_before columns (blocks_of sh t) s.made (read_at old own t k parts b.told) before (written between.sink) s.gone)
+
+    -- There was no memory to lend a block behind some reads.
+    unlent : (mid new : Session) (k : ℕ) (made : List Occurrence) (told : CoreReply) → Went store old mid asked made → (r : ReadsBlock store mid new own t k told) → KeepsLend (view_of mid) (view_of new)
+        → k < blocks_of sh t → r.made ≡ [] → events_in made ≡ map (event.Read own t) (below k) → ArePlain made
+        → (a : Answers store old new (command.Export t) said.Memory) × (a.made ≡ made)
+    unfolding unlent_call
+    unlent mid new k made told w r keeps lt none' events plain = (
+      unlent_call store old mid new own t k told (command.Export t) asked made is w r (is_asked store own t k lt) keeps none'
+          (plain_reads own t made (below k) events plain) (asks made) granted_here (is_part k made (omega (arith, lt)) events (plain_cut made plain)),
+      refl,
+    )
+
+    -- There was no memory to lend the block: nothing of it was sent.
+    unlent_broke : {W : Type 0} (written : W → Option (List ℕ)) (faults : W → ℕ) (mid new : Session) (k : ℕ) (before : Option (List ℕ)) (between now : WriterView W) (sent : Sent) (spent steps later : ℕ)
+        (fault : PieceFault) → Sending store old mid own t k before (written between.sink) sent spent steps → between.failed ≡ false → IsFree mid → k < blocks_of sh t
+        → (b : SendsBlock store mid new own t k written faults between now steps later (Err fault))
+        → b.told ≡ reply.Memory → b.reads.made ≡ [] → ExportsCounted store old new t said.Memory before (written now.sink) spent later
+    unlent_broke {W} written faults mid new k before between now sent spent steps later fault s fresh free lt b told none' =
+        broke_by new (k + 1) s.made before (written now.sink) spent later (omega (arith, lt))
+        (unlent mid new k s.made b.told s.went b.reads (keeps_none free b.free) lt none' s.events s.plain)
+        b.reads.session (b.reads.same ∙ s.went.same) (b.reads.opened ∙ s.went.opened)
+        (go fault (subst (λ (told : CoreReply). MakesPiece {T = Sent} written faults between now (group_message columns (rows_told told)) (Err fault)) told b.writes))
+        (subst (λ n. later ≤ spent + slots_of sh t * ((k + 1) - n)) s.frozen_are
+        (let few = steps_more (slots_of sh t) spent steps later k sent.frozen 0 s.frozen_few (omega arith) s.steps_few
+        (subst (λ (told : CoreReply). later ≤ steps + slots_of sh t * (1 - count_by is_shared (told ∷ []))) told b.few) in
+        let same : sent.frozen + 0 ≡ sent.frozen = omega arith in subst (λ n. later ≤ spent + slots_of sh t * ((k + 1) - n)) same few))
+      where
+        go : (fault : PieceFault) → MakesPiece {T = Sent} written faults between now [] (Err fault) → HasBroken columns (blocks_of sh t) s.made before (written now.sink)
+        go (Sink sink) failed =
+            let none' = (sink_fails written faults between now [] sink.earlier fresh failed).1 in
+            breaks_behind columns (blocks_of sh t) s.made before (written between.sink) (written now.sink) s.gone none'
+        go (Memory refused) failed = subst (λ (w : WriterView W). HasBroken columns (blocks_of sh t) s.made before (written w.sink)) (sym failed.1)
+            (breaks_there columns (blocks_of sh t) s.made before (written between.sink) s.gone)
+
+    -- a read found no memory, or a block's message failed
+    pub block_broke : {W : Type 0} (written : W → Option (List ℕ)) (faults : W → ℕ) (mid new : Session) (k : ℕ) (before : Option (List ℕ)) (between now : WriterView W) (sent : Sent) (spent steps later : ℕ)
+        (fault : PieceFault) → Sending store old mid own t k before (written between.sink) sent spent steps → between.failed ≡ false → IsFree mid → k < blocks_of sh t
+        → SendsBlock store mid new own t k written faults between now steps later (Err fault) → ExportsCounted store old new t said.Memory before (written now.sink) spent later
+    block_broke written faults mid new k before between now sent spent steps later fault s fresh free lt b = go b.reads.is_read
+      where
+        go : IsReadOf mid.session own t k b.told b.reads.made → ExportsCounted store old new t said.Memory before (written now.sink) spent later
+        go (inl one) = read_broke written faults mid new k before between now sent spent steps later fault s fresh free lt b one.0 one.1
+        go (inr none') = unlent_broke written faults mid new k before between now sent spent steps later fault s fresh free lt b none'.0 none'.1
 
     -- all blocks were read
     all_read : (new : Session) (before now : Option (List ℕ)) (sent : Sent) (spent steps : ℕ) → (s : Sending store old new own t (blocks_of sh t) before now sent spent steps) → AreAllRead (blocks_of sh t) s.made
@@ -455,6 +530,7 @@ refused store old t key before spent is written = record {
         called = refused_call (shape_in store) old.session (seen old) (own_of old) is.own (command.Export t) (said.Dirty key) (go (own_of old) written);
         count = omega arith;
         ends = tt;
+        reads = keeps_stays;
         took = took_none (shape_in store) (events_of (shape_in store) (own_of old) old.session (command.Export t) []) (seen old) (taken_by old);
       },
       refl,

@@ -14,9 +14,9 @@ use Rattle.run_spec.specs.Calls.{is_memory}
 use Rattle.run_spec.specs.Occurrences.{replies_in}
 use Rattle.run_spec.specs.Told.{is_shared, is_some_row, rows_told}
 use Rattle.shared_store.specs.Reading.{ReadsBlock}
-use Rattle.shared_store.specs.Store.{Answers, IsSession, StoreView, own_of, shape_in}
-use Rattle.shared_store.specs.declared.reading.BlockRows.{BlockRows}
-use Rattle.shared_store.specs.declared.reading.BlockRows.TheVariants as block
+use Rattle.shared_store.specs.Store.{Answers, IsFree, IsSession, StoreView, own_of, shape_in}
+use Rattle.shared_store.specs.declared.reading.SeenBlock.{SeenBlock}
+use Rattle.shared_store.specs.declared.reading.SeenBlock.TheVariants as block
 use Rattle.shared_store.specs.declared.session.Session.{Session}
 use Rattle.workload_spec.specs.declared.command.Command.TheVariants as command
 use Rattle.workload_spec.specs.declared.reply.Said.{Said}
@@ -39,12 +39,12 @@ exported_told (Err fault.Memory) = said.Memory
 
 -- ---- what is sent
 
--- the reply that a read told
-abbrev pub reply_in : BlockRows → CoreReply
+-- the reply that a block was seen by: a lend tells what a read would
+abbrev pub reply_in : SeenBlock → CoreReply
 reply_in (block.Rows rows) = reply.Rows rows
-reply_in (block.Shared rows) = reply.Shared rows
+reply_in (block.Lent lend) = reply.Shared lend.rows
 
--- the rows of some reads, the blocks with a row, and the blocks frozen when they were read
+-- the rows of some reads, the blocks with a row, and the blocks that were lent
 abbrev pub counted : List CoreReply → Sent
 counted replies = record {
   rows = length (flat_map rows_told replies);
@@ -52,7 +52,8 @@ counted replies = record {
   frozen = count_by is_shared replies;
 }
 
--- A block was read, and the message of its rows was written. No row of a frozen one was looked at.
+-- A block was read, and the message of its rows was written. No row of a frozen one was looked at,
+-- and nothing is lent behind it.
 pub record SendsBlock
     {W : Type 0} (store : StoreView) (old new : Session) (own : OwnTransaction) (table at : ℕ)
     (written : W → Option (List ℕ)) (faults : W → ℕ) (before now : WriterView W)
@@ -60,6 +61,7 @@ pub record SendsBlock
     : Type 0 where
   pub told : CoreReply
   pub reads : ReadsBlock store old new own table at told
+  pub free : IsFree new
   pub writes : MakesPiece written faults before now
       (group_message (columns_in (shape_in store) table) (rows_told told))
       result

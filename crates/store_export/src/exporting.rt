@@ -1,6 +1,6 @@
 //! The export of a table.
 ghost use Rattle.std.specs.Prelude.{◌≡◌, ◌<◌, ◌^◌, true, is_some, length};
-ghost use Rattle.shared_store.specs.Store.{HasRoomFor, IsSession, own_of, shape_in};
+ghost use Rattle.shared_store.specs.Store.{HasRoomFor, IsFree, IsSession, own_of, shape_in};
 ghost use Rattle.store_export.specs.Exports.{Exports, ExportsCounted, exported_told};
 ghost use Rattle.store_export.specs.Writers.{LeavesWriter};
 ghost use Rattle.store_export.specs.declared.exporting.ExportFault.TheVariants as fault;
@@ -25,7 +25,7 @@ pub struct Summary {
     pub rows: u64,
     /// In how many batches, one for each block that has a row.
     pub batches: u32,
-    /// How many of the table's blocks were frozen when they were read.
+    /// How many of the table's blocks were frozen when they were seen: these were lent.
     pub frozen: u32,
 }
 
@@ -45,9 +45,9 @@ pub enum ExportFault {
 }
 
 /// Exports a table as the session's transaction sees it, as an Arrow stream: its schema, a batch
-/// for each block that has a row, and its end. The batch of a frozen block is written from the
-/// image that it shares, of which no row is read; of any other block each row that is looked at is
-/// a step.
+/// for each block that has a row, and its end. A frozen block lends its image, from which the batch
+/// is written and of which no row is read; the lend is given back before the next block and before
+/// any answer. Of any other block each row that is looked at is a step.
 ///
 /// # Errors
 ///
@@ -63,6 +63,7 @@ pub fn export<R: Wait, L: Ledger, W: Sink>(
     steps: &mut Steps<L>,
 ) -> Result<Summary, ExportFault>
     requires session { IsSession store.now session.old }
+    requires free { IsFree session.old }
     requires room { HasRoomFor (2 ^ 10) session.old }
     requires busy { is_some (own_of session.old) ≡ true }
     requires table { table < length (shape_in store.now).tables }
@@ -106,6 +107,7 @@ pub fn export_uncounted<R: Wait, W: Sink>(
     writer: &mut Writer<W>,
 ) -> Result<Summary, ExportFault>
     requires session { IsSession store.now session.old }
+    requires free { IsFree session.old }
     requires room { HasRoomFor (2 ^ 10) session.old }
     requires busy { is_some (own_of session.old) ≡ true }
     requires table { table < length (shape_in store.now).tables }
@@ -131,6 +133,7 @@ fn export_on<R: Wait, L: Ledger, W: Sink>(
     blank: Blank,
 ) -> Result<Summary, ExportFault>
     requires session { IsSession store.now session.old }
+    requires free { IsFree session.old }
     requires room { HasRoomFor (2 ^ 10) session.old }
     requires busy { is_some (own_of session.old) ≡ true }
     requires table { table < length (shape_in store.now).tables }

@@ -1,5 +1,5 @@
 //! The export of a table of a store as an Arrow stream: a batch for a block that has a row at the
-//! snapshot, and of a frozen block its shared image, of which no row is read.
+//! snapshot, and of a frozen block the image that it lends, of which no row is read.
 #![tactic(auto)]
 
 mod exporting;

@@ -13,7 +13,6 @@ use cell_model::{Row, Schema};
 use core_parts::{FrontColumns, ReadForm, ReadRows};
 use gather_core::gather_in_turn;
 use ipc_write::{LentImage, PieceFault, Writer};
-use shared_store::FrozenRows;
 use std::alloc::{AllocError, Global};
 
 /// Writes the batch of a block's rows, if it has one, and answers how many rows there are.
@@ -87,34 +86,12 @@ fn image_of(alloc: Global, front: FrontColumns) -> Result<Image, AllocError>
     Ok(Image::of(front.into_columns(), rows, form))
 }
 
-/// Writes the batch of a frozen block's rows, from where they lie, and answers how many there
-/// are. What it is lent has their Arrow form and no row to read.
-pub fn write_image<W: Sink>(
-    alloc: Global,
-    schema: &Schema,
-    frozen: &FrozenRows,
-    writer: &mut Writer<W>,
-) -> Result<usize, PieceFault>
-    requires fresh { writer.old.failed ≡ false }
-    ensures answer { MakesPiece
-        W.written
-        W.faults
-        writer.old
-        writer.new
-        (group_message schema.now frozen.now)
-        result }
-    ensures rows { IfOk result (λ count. count ≡ length frozen.now) }
-    ensures started { W.started writer.new.sink ≡ W.started writer.old.sink }
-    ensures loan { W.loan writer.new.sink ≡ W.loan writer.old.sink }
-{
-    write_whole(alloc, schema, &frozen.lent(), writer)
-}
-
-/// Writes the batch of an image, if it has a row, and answers how many it has.
+/// Writes the batch of an image from where its rows lie, if it has one, and answers how many it
+/// has.
 ///
 /// The images of a store have their table's kinds. Of one that had not, the form would be of no
 /// use, and it is answered as where memory is wanting.
-fn write_whole<W: Sink>(
+pub fn write_whole<W: Sink>(
     alloc: Global,
     schema: &Schema,
     image: &LentImage<'_>,

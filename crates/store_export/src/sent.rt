@@ -1,8 +1,7 @@
 //! What was sent so far.
 ghost use Rattle.std.specs.Prelude.{◌≡◌, ◌+◌, ◌<◌, ◌^◌, cond, nat_lt};
 
-/// How many rows were sent, in how many batches, and how many blocks were frozen when they were
-/// read.
+/// How many rows were sent, in how many batches, and how many blocks were lent.
 #[derive(Clone, Copy)]
 pub struct Sent {
     pub rows: u64,

@@ -7,58 +7,68 @@ ghost use Rattle.event_spec.specs.declared.own.OwnTransaction.{OwnTransaction as
 ghost use Rattle.ipc_write.specs.Calls.{MakesPiece};
 ghost use Rattle.ipc_write.specs.declared.faults.PieceFault.TheVariants as piece;
 ghost use Rattle.run_spec.specs.Opened.{least_written};
-ghost use Rattle.shared_store.specs.Reading.{rows_in};
-ghost use Rattle.shared_store.specs.Store.{HasRoomFor, IsSession, own_of, shape_in};
+ghost use Rattle.shared_store.specs.Reading.{GivesBack, HoldsSeen, rows_in};
+ghost use Rattle.shared_store.specs.Store.{HasRoomFor, IsFree, IsSession, own_of, shape_in};
 ghost use Rattle.store_export.specs.Exports.{ExportsCounted, SendsBlock};
 ghost use Rattle.store_export.specs.Exports.{counted, reply_in, sent_told};
 ghost use Rattle.store_export.specs.Groups.{group_message};
 ghost use Rattle.store_export.specs.Writers.{LeavesByPiece};
 
-use crate::sending::{write_found, write_image};
+use crate::sending::{write_found, write_whole};
 use crate::sent::Sent;
 use byte_ports::Sink;
 use cell_model::Schema;
 use hall_rule::Steps;
 use ipc_write::{PieceFault, Writer};
-use shared_store::{BlockRows, Session, Store};
-use std::alloc::{AllocError, Global};
+use shared_store::{SeenBlock, Session, Store};
+use std::alloc::AllocError;
 use std::sync::Wait;
 use std::sync::ledger::Ledger;
 
-/// Writes the batch of what a read told, if it told a row.
-fn write_read<W: Sink>(
-    alloc: Global,
+/// Writes the batch of a block that was seen, if it has a row. A lend is given back, whether it
+/// was written or not.
+fn write_seen<W: Sink>(
+    store: &Store,
+    session: &mut Session,
     schema: &Schema,
-    read: BlockRows,
+    seen: SeenBlock,
     writer: &mut Writer<W>,
 ) -> Result<Sent, PieceFault>
+    requires session { IsSession store.now session.old }
+    requires holds { HoldsSeen store.now session.old seen }
     requires fresh { writer.old.failed ≡ false }
-    requires fits { All (λ row. Fits schema.now row) (rows_in read) }
-    requires few { length (rows_in read) ≤ 2 ^ 15 }
+    requires fits { All (λ row. Fits schema.now row) (rows_in seen) }
+    requires few { length (rows_in seen) ≤ 2 ^ 15 }
     ensures answer { MakesPiece
         W.written
         W.faults
         writer.old
         writer.new
-        (group_message schema.now (rows_in read))
+        (group_message schema.now (rows_in seen))
         result }
-    ensures sent { IfOk result (λ sent. sent ≡ counted (reply_in read ∷ [])) }
+    ensures sent { IfOk result (λ sent. sent ≡ counted (reply_in seen ∷ [])) }
+    ensures gives { GivesBack store.now session.old session.new seen }
     ensures started { W.started writer.new.sink ≡ W.started writer.old.sink }
     ensures loan { W.loan writer.new.sink ≡ W.loan writer.old.sink }
 {
-    match read {
-        BlockRows::Rows(rows) => match write_found(alloc, schema, rows, writer) {
+    let alloc = store.shape().alloc();
+    match seen {
+        SeenBlock::Rows(rows) => match write_found(alloc, schema, rows, writer) {
             Ok(count) => Ok(Sent::of_block(count, 0)),
             Err(fault) => Err(fault),
         },
-        BlockRows::Shared(shared) => match write_image(alloc, schema, &shared, writer) {
-            Ok(count) => Ok(Sent::of_block(count, 1)),
-            Err(fault) => Err(fault),
-        },
+        SeenBlock::Lent(lend) => {
+            let written = write_whole(alloc, schema, &lend.image(), writer);
+            store.end_lend(session, lend);
+            match written {
+                Ok(count) => Ok(Sent::of_block(count, 1)),
+                Err(fault) => Err(fault),
+            }
+        }
     }
 }
 
-/// Reads a block, and writes its batch.
+/// Sees a block, and writes its batch.
 fn send_block<R: Wait, L: Ledger, W: Sink>(
     store: &Store,
     rt: &R,
@@ -69,6 +79,7 @@ fn send_block<R: Wait, L: Ledger, W: Sink>(
     steps: &mut Steps<L>,
 ) -> Result<Sent, PieceFault>
     requires session { IsSession store.now session.old }
+    requires free { IsFree session.old }
     requires room { HasRoomFor 1 session.old }
     requires busy { is_some (own_of session.old) ≡ true }
     requires block { HasBlock (shape_in store.now) table block }
@@ -82,8 +93,8 @@ fn send_block<R: Wait, L: Ledger, W: Sink>(
     let shape = store.shape();
     // A block has at most 2^15 slots, so that its batch can be written.
     let _slots = shape.slots(table);
-    match store.read(rt, session, table, block, steps) {
-        Ok(read) => write_read(shape.alloc(), shape.schema(table), read, writer),
+    match store.see_block(rt, session, table, block, steps) {
+        Ok(seen) => write_seen(store, session, shape.schema(table), seen, writer),
         Err(AllocError) => Err(PieceFault::Memory(AllocError)),
     }
 }
@@ -98,6 +109,7 @@ pub(crate) fn send_table<R: Wait, L: Ledger, W: Sink>(
     steps: &mut Steps<L>,
 ) -> Result<Sent, PieceFault>
     requires session { IsSession store.now session.old }
+    requires free { IsFree session.old }
     requires room { HasRoomFor (2 ^ 10) session.old }
     requires busy { is_some (own_of session.old) ≡ true }
     requires table { table < length (shape_in store.now).tables }

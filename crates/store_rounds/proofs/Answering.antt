@@ -1,8 +1,9 @@
 -- What a session is answered: refused without a transaction, or by few events.
-use Rattle.std.proofs.Common.{◌≡◌, ℕ, ℤ, zero, suc, ◌<◌, ◌≤◌, ◌^◌, ◌&&◌, Bool, true, false, List, [], ◌∷◌, ◌++◌, map, length, Option, None, Some, is_some, option_map, refl, sym, ap, ◌∙◌, subst, append-nil, arith, length-append, true≢false}
+use Rattle.std.proofs.Common.{◌≡◌, ℕ, ℤ, zero, suc, ◌<◌, ◌≤◌, ◌^◌, ◌&&◌, Bool, true, false, not, List, [], ◌∷◌, ◌++◌, map, length, Option, None, Some, is_some, option_map, refl, sym, ap, ◌∙◌, subst, append-nil, arith, length-append, true≢false}
 use mathlib.Core.Logic.{inl, inr}
 use Rattle.std.specs.Prelude.{All, slice_get, unwrap_or}
 use Rattle.std.specs.Prelude.{option_to_list}
+use Rattle.std.proofs.lemmas.List.Sums.{count_by-le-length}
 use Rattle.std.proofs.lemmas.Bool.{and_parts}
 use Rattle.std.proofs.lemmas.List.{length-map}
 use Rattle.std.proofs.lemmas.List.Elements.{All-head, All-tail}
@@ -18,13 +19,15 @@ use Rattle.workload_spec.specs.declared.command.Command.TheVariants as command
 use Rattle.workload_spec.specs.declared.reply.Said.{Said}
 use Rattle.workload_spec.specs.declared.reply.Said.TheVariants as said
 use Rattle.outcome_spec.specs.Forms.{is_upkeep}
+use Rattle.run_laws.proofs.Rounds.Working.{nothing_called}
 use Rattle.run_spec.specs.Asked.{at_blocks, events_of}
 use Rattle.run_spec.specs.Calls.{Call, IsCallBy}
 use Rattle.run_spec.specs.Handed.{own_in}
 use Rattle.run_spec.specs.Occurrences.{Occurrence, events_in}
 use Rattle.run_spec.specs.Opened.{own_after}
-use Rattle.run_spec.specs.Told.{refusal_of}
-use Rattle.shared_store.specs.Store.{Answers, IsSession, MakesAtMost, StoreView, own_of, seen, shape_in, taken_by}
+use Rattle.run_spec.specs.Told.{is_shared, refusal_of}
+use Rattle.shared_store.specs.Store.{Answers, MakesAtMost, StoreView, own_of, seen, shape_in, taken_by}
+use Rattle.store_rounds.specs.Sessions.{IsFreeSession}
 use Rattle.shared_store.specs.declared.session.Session.{Session}
 use Rattle.store_rounds.specs.Answered.{Answered, most_events}
 
@@ -53,21 +56,19 @@ none_open None none = refl
 none_open (Some x) none = absurd (true≢false none)
 
 -- a session without a transaction is told so where the command needs one
-pub refused : (store : StoreView) (s : Session) (command : Command) → IsSession store s
+pub refused : (store : StoreView) (s : Session) (command : Command) → IsFreeSession store s
     → is_some (refusal_of command None) ≡ true → is_some (own_of s) ≡ false → Answers store s s command said.NoTransaction
 refused store s command is needs closed =
     let call : Call = record { command = command; made = []; told = Some said.NoTransaction } in
-    let nothing : own_after (own_in (shape_in store) s.session (seen s)) ≡ None = sym is.own ∙ none_open (own_of s) closed in
+    let nothing : own_after (own_in (shape_in store) s.session (seen s)) ≡ None = sym is.stands.own ∙ none_open (own_of s) closed in
     record {
       made = [];
-      called = record {
-        goes_on = ([], sym (append-nil (seen s)));
-        made = sym (append-nil (own_in (shape_in store) s.session (seen s)));
-        is_call = subst (λ own. IsCallBy (shape_in store) false s.session own (refusal_of command own) call) (sym nothing)
-            (subst (λ told. IsCallBy (shape_in store) false s.session None told call) (sym (refusal_is command needs)) (refl, refl));
-      };
+      called = nothing_called (shape_in store) false s.session (seen s) call refl
+          (subst (λ own. IsCallBy (shape_in store) false s.session own (refusal_of command own) call) (sym nothing)
+          (subst (λ told. IsCallBy (shape_in store) false s.session None told call) (sym (refusal_is command needs)) (refl, refl)));
       count = omega arith;
       ends = tt;
+      reads = record { claim = refl; claimed = λ some. refl };
       took = record { parts = []; took = sym (append-nil (taken_by s)); touched = λ part has. absurd (true≢false (sym has)) };
     }
 
@@ -166,4 +167,5 @@ few_events store old new asked told exported now blocks answered = go (is_upkeep
         let made = made_few (shape_in store) false old.session (own_after (own_in (shape_in store) old.session (seen old)))
         (refusal_of asked (own_after (own_in (shape_in store) old.session (seen old))))
         (record { command = asked; made = answered.answers.made; told = Some told }) few other answered.answers.called.is_call in
-        omega (arith, made, answered.answers.count)
+        let events = count_by-le-length (λ (occurrence : Occurrence). not (is_shared occurrence.reply)) answered.answers.made in
+        omega (arith, made, events, answered.answers.count)

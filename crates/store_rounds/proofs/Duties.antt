@@ -11,7 +11,8 @@ use Rattle.outcome_spec.specs.Forms.{commands_of}
 use Rattle.workload_spec.specs.Valid.{is_export}
 use Rattle.workload_spec.specs.declared.command.Command.{Command}
 use Rattle.workload_spec.specs.declared.script.Line.{Line}
-use Rattle.shared_store.specs.Store.{IsSession, StoreView, shape_in}
+use Rattle.shared_store.specs.Store.{StoreView, shape_in}
+use Rattle.store_rounds.specs.Sessions.{IsFreeSession}
 use Rattle.shared_store.specs.declared.session.Session.{Session}
 use Rattle.store_rounds.specs.Turns.{most_of_turn}
 use Rattle.store_rounds.specs.Answered.{IsServed, most_events}
@@ -167,7 +168,7 @@ two_counted s t (line ∷ lines) other one more =
 -- ---- the duties of a crew may be done
 
 -- A new duty may be served by a session that may do its task.
-new_may : (store : StoreView) (session : Session) (round : ℕ) (to_do : Task) (duty : Duty) → IsNew round to_do duty → IsSession store session
+new_may : (store : StoreView) (session : Session) (round : ℕ) (to_do : Task) (duty : Duty) → IsNew round to_do duty → IsFreeSession store session
     → MayDo store session (Some to_do) → MayServe store duty session
 new_may store session round to_do duty new is may = record {
   is_session = is;

@@ -1,8 +1,9 @@
 -- A command of upkeep: what it names, and by how few events it is carried out.
-use Rattle.std.proofs.Common.{◌≡◌, ℕ, zero, suc, ◌+◌, ◌*◌, ◌<◌, ◌≤◌, ◌^◌, true, false, List, [], ◌∷◌, length, Option, None, Some, is_some, refl, sym, ap, arith, length-append, true≢false}
+use Rattle.std.proofs.Common.{◌≡◌, ℕ, zero, suc, ◌+◌, ◌*◌, ◌<◌, ◌≤◌, ◌^◌, true, false, not, List, [], ◌∷◌, length, Option, None, Some, is_some, refl, sym, ap, arith, length-append, true≢false}
 use mathlib.Core.Logic.{inl, inr}
 use Rattle.std.specs.List.{flat_map, range_with_len}
 use Rattle.std.specs.Prelude.{All, option_map, slice_get, unwrap_or}
+use Rattle.std.proofs.lemmas.List.Sums.{count_by-le-length}
 use Rattle.std.proofs.lemmas.List.{length-map}
 use Rattle.std.proofs.lemmas.List.Elements.{All-head, All-tail}
 use Rattle.std.proofs.lemmas.List.FromFn.{length-range_with_len}
@@ -17,7 +18,7 @@ use Rattle.run_spec.specs.Calls.{Call, IsCallBy}
 use Rattle.run_spec.specs.Handed.{own_in}
 use Rattle.run_spec.specs.Occurrences.{Occurrence, events_in}
 use Rattle.run_spec.specs.Opened.{own_after}
-use Rattle.run_spec.specs.Told.{refusal_of}
+use Rattle.run_spec.specs.Told.{is_shared, refusal_of}
 use Rattle.shared_store.specs.Store.{Answers, MakesAtMost, StoreView, most_blocks, seen, shape_in}
 use Rattle.shared_store.specs.declared.session.Session.{Session}
 use Rattle.workload_spec.specs.Valid.{is_table_place}
@@ -106,7 +107,8 @@ few_made store old new command told most few answers =
     let own : Option OwnTransaction = own_after (own_in (shape_in store) old.session (seen old)) in
     let made = made_few (shape_in store) old.session own (refusal_of command own) (record { command = command; made = answers.made; told = Some told }) most
     (few own answers.made) answers.called.is_call in
-    omega (arith, made, answers.count)
+    let events = count_by-le-length (λ (occurrence : Occurrence). not (is_shared occurrence.reply)) answers.made in
+    omega (arith, made, events, answers.count)
 
 -- an observe makes one for each block, and a seal or a gathering makes one
 pub observe_few : (store : StoreView) (old new : Session) (told : Said) → All (λ (t : TableDecl). t.blocks ≤ 2 ^ 10) (shape_in store).tables → length (shape_in store).tables ≤ 16

@@ -1,3 +1,4 @@
+pub mod Lending
 pub mod Kept
 pub mod Tended
 mod Answering

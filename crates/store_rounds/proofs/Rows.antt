@@ -1,11 +1,13 @@
 -- Sessions of a row meet.
-use Rattle.std.proofs.Common.{◌≡◌, ℕ, ◌+◌, ◌-◌, ◌<◌, ◌≤◌, nat_lt, Bool, true, false, List, [], ◌∷◌, ◌++◌, length, get_or, slice_set, refl, sym, ap, ◌∙◌, subst, append-nil, arith}
+use Rattle.std.proofs.Common.{◌≡◌, ℕ, ◌+◌, ◌-◌, ◌<◌, ◌≤◌, nat_lt, Bool, true, false, List, [], ◌∷◌, ◌++◌, length, get_or, slice_set, refl, sym, ap, ◌∙◌, subst, append-nil, arith, length-append}
 use Rattle.std.proofs.lemmas.Bool.Decides.{nat_tests}
 use Rattle.std.proofs.lemmas.Grind.{elements}
-use Rattle.run_spec.specs.Handed.{GoesOn}
+use Rattle.run_spec.specs.Handed.{GoesOn, own_in}
 use Rattle.run_spec.specs.Occurrences.{Logged}
 use Rattle.run_laws.proofs.Rounds.Working.{further}
-use Rattle.shared_store.specs.Store.{IsSession, StoreView, seen}
+use Rattle.shared_store.specs.Meeting.{Meets}
+use Rattle.shared_store.specs.Store.{StoreView, seen, shape_in}
+use Rattle.store_rounds.specs.Sessions.{IsFreeSession}
 use Rattle.shared_store.specs.declared.session.Session.{Session}
 use Rattle.store_rounds.specs.Row.{AreSessions, LookOn, LooksOn, Meet, Met, SeeBack, ShowAlong}
 
@@ -16,7 +18,7 @@ saw_all : (log : List Logged) → GoesOn log log
 saw_all log = ([], sym (append-nil log))
 
 -- a session looks on to itself
-pub stays : (store : StoreView) (session : Session) → IsSession store session → LooksOn store session session
+pub stays : (store : StoreView) (session : Session) → IsFreeSession store session → LooksOn store session session
 stays store session is = record { is_session = is; same = refl; saw = saw_all (seen session); nothing_more = refl; made = refl }
 
 -- a session that looks on twice has looked on
@@ -46,6 +48,16 @@ pub still_sessions : (store : StoreView) (old new : List Session) → LookOn sto
 still_sessions store old new look k d within = (look.each k d (omega (arith, within, look.size))).is_session
 
 -- ---- neighbours
+
+-- one that met another looked on, and has lent nothing still
+looks_met : (store : StoreView) (old new : Session) → IsFreeSession store old → Meets store old new → LooksOn store old new
+looks_met store old new is met = record {
+  is_session = record { stands = met.session; free = met.reads.claim ∙ is.free };
+  same = met.same;
+  saw = met.sees;
+  nothing_more = ap (λ n. own_in (shape_in store) n (seen new)) met.same ∙ met.own;
+  made = met.made;
+}
 
 -- where a place stands to two neighbours
 data Place (second k : ℕ) : Type 0 where
@@ -106,8 +118,20 @@ module _ (front back : List Session) (second : ℕ) (a b x y : Session) (size : 
   old_own k d here = grind (arith, elements)
 
   module _ (store : StoreView) (are : AreSessions store (front ++ back))
-      (first_looks : LooksOn store (get_or front (second - 1) x) a) (own_looks : LooksOn store (get_or back 0 y) b)
+      (first_meets : Meets store (get_or front (second - 1) x) a) (own_meets : Meets store (get_or back 0 y) b)
       (shows : GoesOn (seen (get_or front (second - 1) x)) (seen b)) (returns : GoesOn (seen b) (seen a)) where
+    -- the row has both places
+    has_own : second < length (front ++ back)
+    has_own = let both = length-append front back in omega (arith, both, size, high)
+
+    first_looks : LooksOn store (get_or front (second - 1) x) a
+    first_looks = looks_met store (get_or front (second - 1) x) a
+        (subst (IsFreeSession store) (old_first (second - 1) x (omega (arith, low))) (are (second - 1) x (omega (arith, low, has_own))))
+        first_meets
+
+    own_looks : LooksOn store (get_or back 0 y) b
+    own_looks = looks_met store (get_or back 0 y) b (subst (IsFreeSession store) (old_own second y refl) (are second y has_own)) own_meets
+
     each_looks : (k : ℕ) (d : Session) → k < length (front ++ back) → LooksOn store (get_or (front ++ back) k d) (get_or met_row k d)
     each_looks k d within = go (place second k)
       where
@@ -222,8 +246,8 @@ met_at store old now new d are some along back =
     let sizes : length now - 1 ≡ length old - 1 = omega (arith, along.look_on.size) in
     record {
       met = seen last;
-      lawful = is.lawful;
-      named = is.named;
+      lawful = is.stands.lawful;
+      named = is.stands.named;
       size = back.look_on.size ∙ along.look_on.size;
       each = λ k e within. record {
         looks_on = looks_further store (get_or old k e) (get_or now k e) (get_or new k e) (along.look_on.each k e within)

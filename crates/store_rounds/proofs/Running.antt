@@ -25,7 +25,7 @@ use Rattle.run_spec.specs.Ran.{RoundRun, Share, shape_of}
 use Rattle.run_laws.proofs.Rounds.Lines.{rounds_grow}
 use Rattle.run_laws.proofs.Rounds.Rounds.{nothing_ran, rounds_go_on}
 use Rattle.run_laws.specs.Rounds.Lines.{round_text, rounds_text}
-use Rattle.run_laws.specs.Rounds.Rounds.{RanSoFar, round_behind}
+use Rattle.run_laws.specs.Rounds.Rounds.{RanFurther, RanSoFar}
 use Rattle.run_laws.specs.Rounds.Texts.{AreCounted}
 use Rattle.shared_store.specs.Building.{IsNewRow, IsNewSession}
 use Rattle.shared_store.specs.Store.{StoreView, events_made, seen, shape_in}
@@ -93,7 +93,9 @@ new_at store count row k d new within = new.each k (get_or row k d) (grind (arit
 -- A new row stands behind no rounds, with an empty log.
 new_row_stands : (store : StoreView) (count : ℕ) (row : List Session) → IsNewRow store count row → Standing store [] row
 new_row_stands store count row new = record {
-  sessions = λ k d within. (new_at store count row k d new within).session;
+  sessions = λ k d within.
+      let one = new_at store count row k d new within in
+      record { stands = one.session; free = one.free };
   numbers = λ k d within. (new_at store count row k d new within).numbered;
   behind = λ k d within. record { saw = (seen (get_or row k d), refl); nothing_yet = (new_at store count row k d new within).none };
 }
@@ -163,9 +165,15 @@ module _ (script : Script) (store : StoreView) (old new : List Session) (asked :
   abbrev pub more : List Logged
   more = (gone_on script store running.finished old new running.is running.stands done.calls done.ran first_of_row running.some).0
 
+  -- the run went one round further
+  pub further : RanFurther script (asked ++ lines ∷ []) running.rounds (running.finished ++ more) shares
+  further = rounds_go_on script asked running.rounds running.finished more lines shares running.ran
+      (row_met script store running.finished old new running.is running.stands done.calls done.ran first_of_row running.some lines done.asked
+      (subst (λ (shape : Shape). AllTurned shape.tables (crew_of script) done.calls) running.is.shape done.turned))
+
   -- the round that ran, as a round of the run
   abbrev pub round : RoundRun
-  round = round_behind script running.finished more shares
+  round = record { made = further.made; shares = shares }
 
   -- the rounds so far, and this one
   abbrev pub both : List RoundRun
@@ -173,9 +181,7 @@ module _ (script : Script) (store : StoreView) (old new : List Session) (asked :
 
   -- with this round too, the rounds so far ran in the log of all that was finished
   pub ran_further : RanSoFar script (asked ++ lines ∷ []) both (running.finished ++ more)
-  ran_further = rounds_go_on script asked running.rounds running.finished more lines shares running.ran
-      (row_met script store running.finished old new running.is running.stands done.calls done.ran first_of_row running.some lines done.asked
-      (subst (λ (shape : Shape). AllTurned shape.tables (crew_of script) done.calls) running.is.shape done.turned))
+  ran_further = further.ran
 
   -- the pruning counts that the rounds tell fit 64 bits, with this one too
   pub counted_further : All AreCounted both

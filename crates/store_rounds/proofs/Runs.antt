@@ -18,10 +18,12 @@ use Rattle.run_spec.specs.Handed.{Brings, GoesOn, Works, own_in}
 use Rattle.run_spec.specs.Occurrences.{Logged}
 use Rattle.run_spec.specs.Ran.{Agenda, Share, agenda_of, agendas_in, session_of, shape_of, turns_of}
 use Rattle.run_laws.proofs.Rounds.Working.{work_ends}
-use Rattle.run_laws.specs.Rounds.Rounds.{IsNamedIn, RoundMet, made_in}
+use Rattle.run_laws.specs.Calls.Meeting.{IsNamedIn}
+use Rattle.run_laws.specs.Rounds.Rounds.{RoundMet, made_in}
 use Rattle.run_laws.specs.Rounds.Texts.{IsCounted}
 use Rattle.run_laws.specs.Rounds.Working.{Ends, MeetsIn, StandsBehind}
-use Rattle.shared_store.specs.Store.{IsNamed, IsSession, StoreView, seen, shape_in}
+use Rattle.shared_store.specs.Store.{IsNamed, StoreView, seen, shape_in}
+use Rattle.store_rounds.specs.Sessions.{IsFreeSession}
 use Rattle.shared_store.specs.declared.session.Session.{Session}
 use Rattle.store_rounds.specs.Turns.{most_of_turn}
 use Rattle.store_rounds.specs.Answered.{most_events}
@@ -93,7 +95,7 @@ agendas_are script calls lines asked turned =
 
 -- What one of the row is now: a session of the store that stands behind the round.
 record NowAt (store : StoreView) (finished met : List Logged) (k : ℕ) (old new : Session) : Type 0 where
-  is_session : IsSession store new
+  is_session : IsFreeSession store new
   same : new.session ≡ old.session
   stands : StandsBehind (shape_in store) met (k + 1) (seen new)
   goes_on : GoesOn finished met

@@ -16,7 +16,9 @@ use Rattle.outcome_spec.specs.Tables.{blocks_at, columns_at}
 use Rattle.outcome_spec.specs.Upkeep.{exported_table}
 use Rattle.run_spec.specs.Calls.{Call}
 use Rattle.run_spec.specs.Occurrences.{Occurrence}
-use Rattle.shared_store.specs.Store.{Answers, IsSession, MakesAtMost, StoreView, shape_in}
+use Rattle.shared_store.specs.Store.{Answers, MakesAtMost, StoreView, shape_in}
+use Rattle.store_rounds.proofs.Lending.{still_free}
+use Rattle.store_rounds.specs.Sessions.{IsFreeSession}
 use Rattle.shared_store.specs.declared.session.Session.{Session}
 use Rattle.store_export.specs.Exports.{Exports, exported_told}
 use Rattle.store_export.specs.declared.exporting.ExportFault.{ExportFault}
@@ -69,7 +71,7 @@ no_export _ other = refl
 
 -- they send nothing
 pub other_answered : (store : StoreView) (old new : Session) (asked : Command) (told : Said) (exported : Option (List ℕ))
-    → IsSession store new → new.session ≡ old.session → Answers store old new asked told → Counts told
+    → IsFreeSession store new → new.session ≡ old.session → Answers store old new asked told → Counts told
     → (is_upkeep asked ≡ true → MakesAtMost most_events old new) → is_export asked ≡ false
     → Answered store old new asked told exported exported
 other_answered store old new asked told exported is same answers counts kept_up other = record {
@@ -91,7 +93,7 @@ other_answered store old new asked told exported is same answers counts kept_up 
 
 -- refused without a transaction
 pub export_refused : (store : StoreView) (s : Session) (table : ℕ) (exported : Option (List ℕ))
-    → IsSession store s → Answers store s s (command.Export table) said.NoTransaction
+    → IsFreeSession store s → Answers store s s (command.Export table) said.NoTransaction
     → Answered store s s (command.Export table) said.NoTransaction exported exported
 export_refused store s table exported is answers = record {
   session = is;
@@ -121,10 +123,11 @@ sends_by_tables shape table made told bytes sends =
 
 -- an export that was made is a command that was answered
 pub export_answered : (store : StoreView) (old new : Session) (table : ℕ) (told : Result Summary ExportFault) (exported now : Option (List ℕ))
+    → IsFreeSession store old
     → Exports store old new table (exported_told told) exported now
     → Answered store old new (command.Export table) (exported_told told) exported now
-export_answered store old new table told exported now exports = record {
-  session = exports.session;
+export_answered store old new table told exported now is exports = record {
+  session = still_free store old new (command.Export table) (exported_told told) is exports.session exports.answers;
   same = exports.same;
   answers = exports.answers;
   counts = no_count told;

@@ -16,14 +16,15 @@ use Rattle.event_spec.specs.Parts.{Shape, blocks_of}
 use Rattle.outcome_spec.specs.Forms.{is_silent, is_upkeep, turn_of}
 use Rattle.run_laws.specs.Rounds.Lines.{told_by}
 use Rattle.run_laws.specs.Rounds.Texts.{IsCounted}
-use Rattle.run_laws.proofs.Rounds.Working.{further, nothing_done}
+use Rattle.run_laws.proofs.Rounds.Working.{called_earlier, further, nothing_done}
 use Rattle.run_spec.specs.Calls.{Call, IsCall, IsCallBy, line_to}
 use Rattle.run_spec.specs.Handed.{Called, GoesOn, Works, own_in}
 use Rattle.run_spec.specs.Occurrences.{Logged, Occurrence}
 use Rattle.run_spec.specs.Opened.{own_after}
 use Rattle.run_spec.specs.Told.{refusal_of}
 use Rattle.shared_store.proofs.Scanned.{below_more}
-use Rattle.shared_store.specs.Store.{Answers, IsSession, MakesAtMost, StoreView, seen, shape_in}
+use Rattle.shared_store.specs.Store.{Answers, MakesAtMost, StoreView, seen, shape_in}
+use Rattle.store_rounds.specs.Sessions.{IsFreeSession}
 use Rattle.shared_store.specs.declared.session.Session.{Session}
 use Rattle.workload_spec.specs.Valid.{is_block_of}
 use Rattle.workload_spec.specs.declared.command.Command.{Command}
@@ -63,16 +64,6 @@ told_by_one command made (Some told) = refl
 
 -- ---- calls one behind the other
 
--- A call behind more of the log that has no further event of one's own is a call behind less of it.
-called_earlier : (shape : Shape) (worker : Bool) (session : ℕ) (old mid behind : List Logged) (call : Call)
-    → GoesOn old mid → own_in shape session mid ≡ own_in shape session old
-    → Called shape worker session mid behind call → Called shape worker session old behind call
-called_earlier shape worker session old mid behind call more same called = record {
-  goes_on = further old mid behind more called.goes_on;
-  made = called.made ∙ ap (λ (made : List Occurrence). made ++ call.made) same;
-  is_call = subst (λ (made : List Occurrence). IsCall shape worker session made call) same called.is_call;
-}
-
 -- Calls that go on from where others ended are carried out behind those.
 works_on : (shape : Shape) (worker : Bool) (session : ℕ) (old mid new : List Logged) (xs ys : List Call)
     → Works shape worker session old xs mid → Works shape worker session mid ys new → Works shape worker session old (xs ++ ys) new
@@ -95,7 +86,7 @@ told_on before between now xs ys a b kept =
 
 module _ (store : StoreView) where
   -- before any command there was no upkeep
-  pub keeps_nothing : (s : Session) (lines : Lines) → IsSession store s → KeepsUp store s s lines lines [] 0
+  pub keeps_nothing : (s : Session) (lines : Lines) → IsFreeSession store s → KeepsUp store s s lines lines [] 0
   keeps_nothing s lines is = record {
     is_session = is;
     same = refl;
@@ -109,7 +100,7 @@ module _ (store : StoreView) where
 
   -- one command of upkeep, with its line
   pub keeps_one : (old new : Session) (before now : Lines) (command : Command) (told : Said) (most : ℕ) → is_upkeep command ≡ true
-      → IsSession store new → new.session ≡ old.session → Answers store old new command told → Counts told → MakesAtMost most old new
+      → IsFreeSession store new → new.session ≡ old.session → Answers store old new command told → Counts told → MakesAtMost most old new
       → Tells before now (option_to_list (line_to true (Some told))) → KeepsUp store old new before now (command ∷ []) most
   keeps_one old new before now command told most upkeep is same answers counts few tells = record {
     is_session = is;
@@ -118,8 +109,7 @@ module _ (store : StoreView) where
     works = (
       seen new,
       record {
-        goes_on = answers.called.goes_on;
-        made = answers.called.made;
+        stretch = answers.called.stretch;
         is_call = call_by_worker (shape_in store) old.session own (refusal_of command own) command answers.made told (upkeep_free command own upkeep) answers.called.is_call;
       },
       nothing_done (shape_in store) true old.session (seen new),

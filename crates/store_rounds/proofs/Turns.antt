@@ -15,7 +15,8 @@ use Rattle.run_laws.proofs.Rounds.Lines.{shares_grow}
 use Rattle.run_laws.proofs.Rounds.Working.{nothing_done, work_goes_on}
 use Rattle.run_laws.specs.Rounds.Lines.{line_behind, line_of, share_text, told_by}
 use Rattle.run_laws.specs.Rounds.Texts.{IsCounted}
-use Rattle.shared_store.specs.Store.{HasRoomFor, IsSession, MakesAtMost, StoreView, seen, shape_in}
+use Rattle.shared_store.specs.Store.{HasRoomFor, MakesAtMost, StoreView, seen, shape_in}
+use Rattle.store_rounds.specs.Sessions.{IsFreeSession}
 use Rattle.shared_store.specs.declared.session.Session.{Session}
 use Rattle.store_rounds.specs.Answered.{Answered, SentBy, most_events}
 use Rattle.store_rounds.specs.Duties.{is_cut_end, is_whole_end}
@@ -38,7 +39,7 @@ pub record Turn {T : Type 0} (store : StoreView) (round : ℕ) (old now : Sessio
 
 -- before its first command a session has carried out nothing, and its text is as it was
 pub turn_begins : {T : Type 0} (store : StoreView) (round : ℕ) (session : Session) (text : List ℕ) (exported : Option (List ℕ)) (value : T)
-    → IsSession store session → Turn {T = T} store round session session [] text text (Ok value) exported exported 0
+    → IsFreeSession store session → Turn {T = T} store round session session [] text text (Ok value) exported exported 0
 turn_begins store round session text exported value is = record {
   calls = [];
   worked = record { is_session = is; same = refl; works = nothing_done (shape_in store) false session.session (seen session); counted = All-nil IsCounted; few = omega arith };

@@ -23,7 +23,8 @@ use Rattle.run_laws.proofs.Rounds.Lines.{enumerate_append}
 use Rattle.run_laws.proofs.Rounds.Working.{further, nothing_done, work_goes_on}
 use Rattle.run_laws.specs.Rounds.Lines.{line_of, share_text, told_by}
 use Rattle.run_laws.specs.Rounds.Texts.{IsCounted}
-use Rattle.shared_store.specs.Store.{HasRoomFor, IsSession, StoreView, seen, shape_in}
+use Rattle.shared_store.specs.Store.{HasRoomFor, StoreView, seen, shape_in}
+use Rattle.store_rounds.specs.Sessions.{IsFreeSession}
 use Rattle.shared_store.specs.declared.session.Session.{Session}
 use Rattle.store_rounds.specs.Turns.{MadeTurn, most_of_turn}
 use Rattle.store_rounds.specs.Crews.{turns_in}
@@ -162,7 +163,7 @@ pub record Turning (store : StoreView) (round worker : ℕ) (old now : Session) 
 
 -- before its first turn a worker has made none, and its text is as it was
 pub turning_begins : (store : StoreView) (round worker : ℕ) (session : Session) (text : List ℕ)
-    → IsSession store session → Turning store round worker session session text text (Ok 0) 0
+    → IsFreeSession store session → Turning store round worker session session text text (Ok 0) 0
 turning_begins store round worker session text is = record {
   calls = [];
   worked = record {

@@ -7,7 +7,8 @@ use Rattle.cell_model.specs.declared.table.TableDecl.{TableDecl}
 use Rattle.export_spec.specs.Calls.{CallSends, CallsSend}
 use Rattle.outcome_spec.specs.Forms.{is_upkeep}
 use Rattle.run_spec.specs.Calls.{Call}
-use Rattle.shared_store.specs.Store.{Answers, IsSession, MakesAtMost, StoreView, shape_in}
+use Rattle.shared_store.specs.Store.{Answers, MakesAtMost, StoreView, shape_in}
+use Rattle.store_rounds.specs.Sessions.{IsFreeSession}
 use Rattle.shared_store.specs.declared.session.Session.{Session}
 use Rattle.store_export.specs.declared.exporting.ExportFault.{ExportFault}
 use Rattle.store_export.specs.declared.exporting.ExportFault.TheVariants as fault
@@ -52,7 +53,7 @@ pub record Answered
     (store : StoreView) (old new : Session) (command : Command) (told : Said)
     (exported exported_now : Option (List ℕ))
     : Type 0 where
-  pub session : IsSession store new
+  pub session : IsFreeSession store new
   pub same : new.session ≡ old.session
   pub answers : Answers store old new command told
   pub counts : Counts told

@@ -1,3 +1,4 @@
+pub mod Sessions
 pub mod Keeping
 pub mod Turns
 pub mod Answered

@@ -4,16 +4,17 @@ use Rattle.event_spec.specs.Replay.{IsLawfulLog}
 use Rattle.run_spec.specs.Handed.{GoesOn, own_in}
 use Rattle.run_spec.specs.Occurrences.{Logged}
 use Rattle.run_laws.specs.Rounds.Rounds.{made_in}
-use Rattle.shared_store.specs.Store.{IsNamed, IsSession, StoreView, events_made, seen, shape_in}
+use Rattle.shared_store.specs.Store.{IsNamed, StoreView, events_made, seen, shape_in}
+use Rattle.store_rounds.specs.Sessions.{IsFreeSession}
 use Rattle.shared_store.specs.declared.session.Session.{Session}
 
 -- each of the row is a session of the store
 abbrev pub AreSessions : StoreView → List Session → Type 0
-AreSessions store row = (k : ℕ) (d : Session) → k < length row → IsSession store (get_or row k d)
+AreSessions store row = (k : ℕ) (d : Session) → k < length row → IsFreeSession store (get_or row k d)
 
 -- A session may have seen more of the log, and made no event.
 pub record LooksOn (store : StoreView) (old new : Session) : Type 0 where
-  pub is_session : IsSession store new
+  pub is_session : IsFreeSession store new
   pub same : new.session ≡ old.session
   pub saw : GoesOn (seen old) (seen new)
   pub nothing_more

@@ -11,7 +11,8 @@ use Rattle.workload_spec.specs.declared.reply.Who.TheVariants.{Session as TheSes
 use Rattle.workload_spec.specs.declared.reply.Who.TheVariants.{Worker as TheWorker}
 use Rattle.run_spec.specs.Calls.{Call}
 use Rattle.run_laws.specs.Rounds.Lines.{share_text}
-use Rattle.shared_store.specs.Store.{HasRoomFor, IsSession, StoreView, shape_in}
+use Rattle.shared_store.specs.Store.{HasRoomFor, StoreView, shape_in}
+use Rattle.store_rounds.specs.Sessions.{IsFreeSession}
 use Rattle.shared_store.specs.declared.session.Session.{Session}
 use Rattle.store_rounds.specs.Turns.{most_of_turn}
 use Rattle.store_rounds.specs.Answered.{IsServed, SentBy, most_events}
@@ -124,7 +125,7 @@ MayDo store session (Some (task.Turns worker turns)) = MayTurn session worker tu
 
 -- One of a row may do what it is to do, and nothing of it failed yet.
 pub record MayServe (store : StoreView) (duty : Duty) (session : Session) : Type 0 where
-  pub is_session : IsSession store session
+  pub is_session : IsFreeSession store session
   pub may : MayDo store session duty.task
   pub unhurt : is_whole duty ≡ true
 

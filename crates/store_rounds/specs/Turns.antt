@@ -9,7 +9,8 @@ use Rattle.run_laws.specs.Rounds.Lines.{told_by}
 use Rattle.run_laws.specs.Rounds.Texts.{IsCounted}
 use Rattle.run_spec.specs.Calls.{Call}
 use Rattle.run_spec.specs.Handed.{Works}
-use Rattle.shared_store.specs.Store.{IsSession, MakesAtMost, StoreView, most_blocks_in_table, seen}
+use Rattle.shared_store.specs.Store.{MakesAtMost, StoreView, most_blocks_in_table, seen}
+use Rattle.store_rounds.specs.Sessions.{IsFreeSession}
 use Rattle.shared_store.specs.Store.{shape_in}
 use Rattle.shared_store.specs.declared.session.Session.{Session}
 use Rattle.workload_spec.specs.declared.command.Command.{Command}
@@ -64,7 +65,7 @@ pub record KeepsUp
     (store : StoreView) (old new : Session) (before now : Lines) (commands : List Command)
     (most : ℕ)
     : Type 0 where
-  pub is_session : IsSession store new
+  pub is_session : IsFreeSession store new
   pub same : new.session ≡ old.session
   pub calls : List Call
   pub works : Works (shape_in store) true old.session (seen old) calls (seen new)
@@ -78,7 +79,7 @@ pub record KeepsUp
 pub record MadeTurn
     {E : Type 0} (store : StoreView) (old new : Session) (told : Result (GlobalVec Said) E)
     : Type 0 where
-  pub is_session : IsSession store new
+  pub is_session : IsFreeSession store new
   pub same : new.session ≡ old.session
   pub calls : List Call
   pub works : Works (shape_in store) true old.session (seen old) calls (seen new)

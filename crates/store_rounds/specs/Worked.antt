@@ -8,7 +8,8 @@ use Rattle.run_spec.specs.Calls.{Call}
 use Rattle.run_spec.specs.Handed.{Works}
 use Rattle.run_spec.specs.Ran.{Share}
 use Rattle.run_laws.specs.Rounds.Texts.{IsCounted}
-use Rattle.shared_store.specs.Store.{IsSession, MakesAtMost, StoreView, seen, shape_in}
+use Rattle.shared_store.specs.Store.{MakesAtMost, StoreView, seen, shape_in}
+use Rattle.store_rounds.specs.Sessions.{IsFreeSession}
 use Rattle.shared_store.specs.declared.session.Session.{Session}
 
 -- A session of the store, or a worker, carried out these calls, one behind the other, and made so
@@ -16,7 +17,7 @@ use Rattle.shared_store.specs.declared.session.Session.{Session}
 pub record Worked
     (store : StoreView) (worker : Bool) (most : ℕ) (old new : Session) (calls : List Call)
     : Type 0 where
-  pub is_session : IsSession store new
+  pub is_session : IsFreeSession store new
   pub same : new.session ≡ old.session
   pub works : Works (shape_in store) worker old.session (seen old) calls (seen new)
   pub counted : All IsCounted calls

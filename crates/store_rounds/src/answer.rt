@@ -3,7 +3,8 @@ ghost use Rattle.std.specs.Prelude.{◌≡◌, None, OnErr, OnOk, false, is_some
 ghost use Rattle.byte_ports.specs.Calls.{Rose};
 ghost use Rattle.outcome_spec.specs.Forms.{is_upkeep};
 ghost use Rattle.run_spec.specs.Told.{refusal_of};
-ghost use Rattle.shared_store.specs.Store.{Answers, HasRoomFor, IsSession, MakesAtMost};
+ghost use Rattle.shared_store.specs.Store.{Answers, HasRoomFor, MakesAtMost};
+ghost use Rattle.store_rounds.specs.Sessions.{IsFreeSession};
 ghost use Rattle.shared_store.specs.Store.{shape_in};
 ghost use Rattle.store_rounds.specs.Keeping.{Counts};
 ghost use Rattle.store_rounds.specs.Answered.{Answered, IsServed, most_events, told_in};
@@ -33,7 +34,7 @@ pub(crate) fn carry_out<R: Wait + Threads + Sync, X: Sink>(
     spent: &mut Spent,
     outlet: &mut X,
 ) -> Result<Said, Failed>
-    requires session { IsSession store.now session.old }
+    requires session { IsFreeSession store.now session.old }
     requires room { HasRoomFor most_events session.old }
     requires command { IsServed (shape_in store.now).tables command }
     ensures answered { Answered store.now session.old session.new command
@@ -52,6 +53,7 @@ pub(crate) fn carry_out<R: Wait + Threads + Sync, X: Sink>(
 /// Carries out a command other than an export.
 ///
 /// Without a transaction a command that needs one makes no event, and is told so.
+#[tactic(auto, using(crate::proofs::Lending::still_free))]
 fn answer<R: Wait + Threads + Sync>(
     rt: &R,
     store: &Store,
@@ -59,11 +61,11 @@ fn answer<R: Wait + Threads + Sync>(
     command: Command,
     spent: &mut Spent,
 ) -> Said
-    requires session { IsSession store.now session.old }
+    requires session { IsFreeSession store.now session.old }
     requires room { HasRoomFor most_events session.old }
     requires command { IsServed (shape_in store.now).tables command }
     requires other { is_export command ≡ false }
-    ensures session { IsSession store.now session.new }
+    ensures session { IsFreeSession store.now session.new }
     ensures same { session.new.session ≡ session.old.session }
     ensures answers { Answers store.now session.old session.new command result }
     ensures counts { Counts result }

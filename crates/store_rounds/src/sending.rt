@@ -1,7 +1,8 @@
 //! The export of a table to an outlet.
 ghost use Rattle.std.specs.Prelude.{◌≡◌, ◌<◌, is_some, length, OnErr, OnOk, true};
 ghost use Rattle.byte_ports.specs.Calls.{Rose};
-ghost use Rattle.shared_store.specs.Store.{HasRoomFor, IsSession, own_of, shape_in};
+ghost use Rattle.shared_store.specs.Store.{HasRoomFor, own_of, shape_in};
+ghost use Rattle.store_rounds.specs.Sessions.{IsFreeSession};
 ghost use Rattle.store_export.specs.Exports.{Exports, exported_told};
 ghost use Rattle.store_rounds.specs.Answered.{Answered, CountsFaults, most_events, told_in};
 ghost use Rattle.workload_spec.specs.declared.command.Command.TheVariants as command;
@@ -26,7 +27,7 @@ pub(crate) fn send<R: Wait, X: Sink>(
     table: u32,
     outlet: &mut X,
 ) -> Result<Said, Failed>
-    requires session { IsSession store.now session.old }
+    requires session { IsFreeSession store.now session.old }
     requires room { HasRoomFor most_events session.old }
     requires table { table < length (shape_in store.now).tables }
     ensures answered { Answered store.now session.old session.new (command.Export table)
@@ -66,7 +67,7 @@ fn export_to<R: Wait, X: Sink>(
     table: u32,
     outlet: &mut X,
 ) -> Result<Summary, ExportFault>
-    requires session { IsSession store.now session.old }
+    requires session { IsFreeSession store.now session.old }
     requires room { HasRoomFor most_events session.old }
     requires busy { is_some (own_of session.old) ≡ true }
     requires table { table < length (shape_in store.now).tables }

@@ -1,7 +1,8 @@
 //! The workers' turns of a round.
 ghost use Rattle.std.specs.Prelude.{◌≡◌, ◌*◌, ◌≤◌, IfErr};
 ghost use Rattle.workload_spec.specs.Valid.{most_turns, most_workers};
-ghost use Rattle.shared_store.specs.Store.{HasRoomFor, IsSession};
+ghost use Rattle.shared_store.specs.Store.{HasRoomFor};
+ghost use Rattle.store_rounds.specs.Sessions.{IsFreeSession};
 ghost use Rattle.store_rounds.specs.Turns.{most_of_turn};
 ghost use Rattle.store_rounds.specs.Turned.{TurnsMade};
 
@@ -34,7 +35,7 @@ pub(crate) fn make_turns<R: Wait + Threads + Sync, G: Gate>(
     turns: u32,
     lines: &mut Lines,
 ) -> Result<(), RunFault>
-    requires session { IsSession store.now session.old }
+    requires session { IsFreeSession store.now session.old }
     requires few { worker ≤ most_workers }
     requires turns { turns ≤ most_turns }
     requires room { HasRoomFor (most_of_turn * turns) session.old }

@@ -1,6 +1,7 @@
 //! A session's commands of a round.
 ghost use Rattle.std.specs.Prelude.{◌≡◌, ◌*◌, All, length};
-ghost use Rattle.shared_store.specs.Store.{HasRoomFor, IsSession, shape_in};
+ghost use Rattle.shared_store.specs.Store.{HasRoomFor, shape_in};
+ghost use Rattle.store_rounds.specs.Sessions.{IsFreeSession};
 ghost use Rattle.store_rounds.specs.Answered.{IsServed, most_events};
 ghost use Rattle.store_rounds.specs.Served.{SessionServed};
 ghost use Rattle.store_rounds.specs.Workloads.{CountsExportFault};
@@ -36,7 +37,7 @@ pub(crate) fn work<R: Wait + Threads + Sync, G: Gate, X: Sink>(
     spent: &mut Spent,
     outlet: &mut X,
 ) -> Result<(), RunFault>
-    requires session { IsSession store.now session.old }
+    requires session { IsFreeSession store.now session.old }
     requires room { HasRoomFor (most_events * length commands.items) session.old }
     requires commands { All (IsServed (shape_in store.now).tables) commands.items }
     ensures round { lines.new.round ≡ lines.old.round }
@@ -71,7 +72,7 @@ fn carry_out_all<R: Wait + Threads + Sync, G: Gate, X: Sink>(
     spent: &mut Spent,
     outlet: &mut X,
 ) -> Result<(), RunFault>
-    requires session { IsSession store.now session.old }
+    requires session { IsFreeSession store.now session.old }
     requires room { HasRoomFor (most_events * length commands.items) session.old }
     requires commands { All (IsServed (shape_in store.now).tables) commands.items }
     ensures round { lines.new.round ≡ lines.old.round }

@@ -2,7 +2,8 @@
 ghost use Rattle.std.specs.Prelude.{◌≡◌, ◌+◌, ◌<◌, ◌∷◌, [], length, true};
 ghost use Rattle.event_spec.specs.Parts.{blocks_of};
 ghost use Rattle.outcome_spec.specs.Forms.{is_upkeep};
-ghost use Rattle.shared_store.specs.Store.{HasRoomFor, IsSession, shape_in};
+ghost use Rattle.shared_store.specs.Store.{HasRoomFor, shape_in};
+ghost use Rattle.store_rounds.specs.Sessions.{IsFreeSession};
 ghost use Rattle.store_rounds.specs.Keeping.{most_made, most_upkeep};
 ghost use Rattle.store_rounds.specs.Turns.{KeepsUp, MadeTurn, asked_of_block, asked_of_table};
 ghost use Rattle.store_rounds.specs.Turns.{asked_of_tables, most_of_block, most_of_table};
@@ -30,7 +31,7 @@ pub fn turn<R: Wait + Threads + Sync>(
     store: &Store,
     session: &mut Session,
 ) -> Result<Vec<Said>, AllocError>
-    requires session { IsSession store.now session.old }
+    requires session { IsFreeSession store.now session.old }
     requires room { HasRoomFor most_of_turn session.old }
     ensures { MadeTurn store.now session.old session.new result }
 {
@@ -48,7 +49,7 @@ fn tend_tables<R: Wait + Threads + Sync>(
     session: &mut Session,
     lines: &mut Lines,
 )
-    requires session { IsSession store.now session.old }
+    requires session { IsFreeSession store.now session.old }
     requires room { HasRoomFor (most_of_tables + most_upkeep) session.old }
     ensures { KeepsUp store.now session.old session.new lines.old lines.new
         (asked_of_tables (shape_in store.now).tables) most_of_tables }
@@ -66,7 +67,7 @@ fn tend_table<R: Wait + Threads + Sync>(
     table: u32,
     lines: &mut Lines,
 )
-    requires session { IsSession store.now session.old }
+    requires session { IsFreeSession store.now session.old }
     requires room { HasRoomFor (most_of_table + most_upkeep) session.old }
     requires table { table < length (shape_in store.now).tables }
     ensures { KeepsUp store.now session.old session.new lines.old lines.new
@@ -87,7 +88,7 @@ fn tend_block<R: Wait + Threads + Sync>(
     block: u32,
     lines: &mut Lines,
 )
-    requires session { IsSession store.now session.old }
+    requires session { IsFreeSession store.now session.old }
     requires room { HasRoomFor (most_of_block + most_upkeep) session.old }
     requires block { is_block_of (shape_in store.now).tables table block ≡ true }
     ensures { KeepsUp store.now session.old session.new lines.old lines.new
@@ -105,7 +106,7 @@ fn step<R: Wait + Threads + Sync>(
     command: Command,
     lines: &mut Lines,
 )
-    requires session { IsSession store.now session.old }
+    requires session { IsFreeSession store.now session.old }
     requires room { HasRoomFor most_upkeep session.old }
     requires command { is_command (shape_in store.now).tables command ≡ true }
     requires upkeep { is_upkeep command ≡ true }

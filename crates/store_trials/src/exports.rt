@@ -1,12 +1,13 @@
 //! An export whose sink fails in the bytes of a frozen block.
-ghost use Rattle.std.specs.Prelude.{◌≤◌, ◌^◌, length};
-ghost use Rattle.shared_store.specs.Store.{HasRoomFor, IsSession, shape_in};
+ghost use Rattle.std.specs.Prelude.{◌≤◌, ◌^◌, OnOk, length};
+ghost use Rattle.event_spec.specs.Lawful.{HasBlock};
+ghost use Rattle.shared_store.specs.Store.{HasRoomFor, MakesAtMost, shape_in};
+ghost use Rattle.store_rounds.specs.Sessions.{IsFreeSession};
 
-use crate::turns::{Change, write};
+use crate::lends::WORD;
 use byte_ports::StdSink;
 use ipc_write::{SinkFault, Writer};
 use shared_store::{Session, Store};
-use std::alloc::Global;
 use std::io::{self, ErrorKind, Write};
 use std::process::Abort;
 use std::sync::Wait;
@@ -39,16 +40,18 @@ impl Write for Narrow {
 }
 
 /// Breaks an export off in the bytes of the first block, which is frozen: its fault is told, the
-/// writer tells it again, and the transaction goes on.
+/// writer tells it again, nobody reads the block any more, and the transaction stays open.
 pub(crate) fn break_off<R: Abort + Wait>(
     rt: &R,
-    alloc: Global,
     store: &Store,
     session: &mut Session,
 ) -> Result<(), Fail>
-    requires session { IsSession store.now session.old }
+    requires session { IsFreeSession store.now session.old }
     requires room { HasRoomFor (2 ^ 13) session.old }
     requires table { 1 ≤ length (shape_in store.now).tables }
+    requires block { HasBlock (shape_in store.now) 0 0 }
+    ensures session { OnOk result (IsFreeSession store.now session.new) }
+    ensures few { OnOk result (MakesAtMost (2 ^ 12) session.old session.new) }
 {
     store.begin(rt, session).ok();
     if !session.busy() {
@@ -64,5 +67,6 @@ pub(crate) fn break_off<R: Abort + Wait>(
     assert_eq!(rt; again, Err(ExportFault::Sink(SinkFault { earlier: true })));
     drop(writer);
     assert_eq!(rt; narrow.room, 0);
-    write(rt, alloc, store, session, Change::Update(1))
+    assert_eq!(rt; store.word_of(0, 0), WORD);
+    Ok(())
 }

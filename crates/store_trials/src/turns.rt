@@ -1,10 +1,12 @@
 //! Turns over a table whose first block fills, cools, freezes, is thawed and is compacted.
 ghost use Rattle.std.specs.Prelude.{◌≡◌, ◌≤◌, ◌^◌, IfOk, OnOk, length, true};
 ghost use Rattle.engine_core.specs.Core.{MayOpen};
-ghost use Rattle.shared_store.specs.Store.{HasRoomFor, IsSession, MakesAtMost, shape_in};
-ghost use Rattle.workload_spec.specs.Valid.{fits_table};
+ghost use Rattle.event_spec.specs.Lawful.{HasBlock};
+ghost use Rattle.shared_store.specs.Store.{HasRoomFor, MakesAtMost, shape_in};
+ghost use Rattle.store_rounds.specs.Sessions.{IsFreeSession};
+ghost use Rattle.workload_spec.specs.Valid.{fits_table, is_block_of};
 
-use crate::exports::break_off;
+use crate::lends::read_frozen;
 use cell_model::{Bytes, Cell, Column, Kind, Row, Schema, TableDecl};
 use shared_store::{Built, Session, Store, StoreFault};
 use std::alloc::Global;
@@ -24,20 +26,32 @@ pub(crate) enum Change {
 
 use Change::{Delete, Insert, Update};
 
-/// What is written and committed before a turn, and the lines that the turn tells.
+/// What is written and committed before a turn, the lines that the turn tells, and the word of the
+/// first block behind it.
 struct Case {
     writes: &'static [Change],
     told: &'static str,
+    word: u64,
 }
 
 /// The most writes of a case.
 const MOST: usize = 16;
+
+/// The states of a block, and one seal, as they stand in its word.
+const COOLING: u64 = 1 << 62;
+
+const FREEZING: u64 = 2 << 62;
+
+pub(crate) const FROZEN: u64 = 3 << 62;
+
+pub(crate) const STAMP: u64 = 1 << 32;
 
 const CASES: [Case; 9] = [
     // An empty table.
     Case {
         writes: &[],
         told: "[Cooling(0), Pruned(0), Moved(0)]",
+        word: 0,
     },
     // The first block is full, and the second is the head.
     Case {
@@ -53,48 +67,60 @@ const CASES: [Case; 9] = [
             Insert(9),
         ],
         told: "[Cooling(0), Pruned(9), Moved(0)]",
+        word: 0,
     },
     // A second round in which it was not modified.
     Case {
         writes: &[],
         told: "[Cooling(1), Pruned(0), Moved(0), Sealed { table: 0, block: 0, stamp: 1 }, \
             Frozen { table: 0, block: 0, rows: 8 }]",
+        word: FROZEN | STAMP,
     },
     // An update thaws it.
     Case {
         writes: &[Update(1)],
         told: "[Cooling(0), Pruned(1), Moved(0)]",
+        word: STAMP,
     },
     Case {
         writes: &[],
         told: "[Cooling(1), Pruned(0), Moved(0), Sealed { table: 0, block: 0, stamp: 2 }, \
             Frozen { table: 0, block: 0, rows: 8 }]",
+        word: FROZEN | 2 * STAMP,
     },
     // Two deletes thaw it and leave gaps.
     Case {
         writes: &[Delete(2), Delete(4)],
         told: "[Cooling(0), Pruned(2), Moved(0)]",
+        word: 2 * STAMP,
     },
     // Two rows move into the gaps, and each leaves two versions.
     Case {
         writes: &[],
         told: "[Cooling(1), Pruned(0), Moved(2)]",
+        word: 2 * STAMP,
     },
     Case {
         writes: &[],
         told: "[Cooling(0), Pruned(4), Moved(0)]",
+        word: 2 * STAMP,
     },
     Case {
         writes: &[],
         told: "[Cooling(1), Pruned(0), Moved(0), Sealed { table: 0, block: 0, stamp: 3 }, \
             Frozen { table: 0, block: 0, rows: 6 }]",
+        word: FROZEN | 3 * STAMP,
     },
 ];
 
 /// A table of keys alone, of two blocks of eight rows.
 fn tables(alloc: Global) -> Result<Vec<TableDecl>, Fail>
     ensures may_open { IfOk result (λ tables. MayOpen tables.items 2) }
-    ensures one { IfOk result (λ tables. length tables.items ≡ 1) }
+    ensures block { IfOk result (λ tables.
+        HasBlock (record { tables = tables.items; passes = 2 }) 0 0) }
+    ensures head { IfOk result (λ tables.
+        HasBlock (record { tables = tables.items; passes = 2 }) 0 1) }
+    ensures known { IfOk result (λ tables. is_block_of tables.items 0 0 ≡ true) }
 {
     let key = Column {
         name: Bytes::from_slice(alloc, b"key".as_slice())?,
@@ -142,10 +168,10 @@ pub(crate) fn write<R: Wait>(
     session: &mut Session,
     change: Change,
 ) -> Result<(), Fail>
-    requires session { IsSession store.now session.old }
+    requires session { IsFreeSession store.now session.old }
     requires room { HasRoomFor 2 session.old }
     requires table { 1 ≤ length (shape_in store.now).tables }
-    ensures session { OnOk result (IsSession store.now session.new) }
+    ensures session { OnOk result (IsFreeSession store.now session.new) }
     ensures few { OnOk result (MakesAtMost 2 session.old session.new) }
 {
     if !session.busy() {
@@ -172,10 +198,10 @@ fn write_all<R: Wait>(
     session: &mut Session,
     writes: &[Change],
 ) -> Result<(), Fail>
-    requires session { IsSession store.now session.old }
+    requires session { IsFreeSession store.now session.old }
     requires room { HasRoomFor (2 ^ 10) session.old }
     requires table { 1 ≤ length (shape_in store.now).tables }
-    ensures session { OnOk result (IsSession store.now session.new) }
+    ensures session { OnOk result (IsFreeSession store.now session.new) }
     ensures few { OnOk result (MakesAtMost (2 ^ 10) session.old session.new) }
 {
     if writes.len() > MOST {
@@ -200,23 +226,57 @@ fn live<R: Abort + Wait + Threads + Sync>(
     session: &mut Session,
     worker: &mut Session,
 ) -> Result<(), Fail>
-    requires session { IsSession store.now session.old }
-    requires worker { IsSession store.now worker.old }
+    requires session { IsFreeSession store.now session.old }
+    requires worker { IsFreeSession store.now worker.old }
     requires room { HasRoomFor (2 ^ 40) session.old }
     requires room_to_work { HasRoomFor (2 ^ 40) worker.old }
-    requires table { 1 ≤ length (shape_in store.now).tables }
-    ensures session { OnOk result (IsSession store.now session.new) }
+    requires block { HasBlock (shape_in store.now) 0 0 }
+    ensures session { OnOk result (IsFreeSession store.now session.new) }
+    ensures worker { OnOk result (IsFreeSession store.now worker.new) }
     ensures few { OnOk result (MakesAtMost (2 ^ 14) session.old session.new) }
+    ensures few_turns { OnOk result (MakesAtMost (2 ^ 44) worker.old worker.new) }
 {
     for case in &CASES {
         write_all(rt, alloc, store, session, case.writes)?;
         let told = format!(in alloc; "{:?}", turn(rt, alloc, store, worker)?)?;
         assert_eq!(rt; told.as_str(), case.told);
+        assert_eq!(rt; store.word_of(0, 0), case.word);
     }
     Ok(())
 }
 
-/// The last image of the block is then exported to a sink that fails in its bytes.
+/// Thaws the first block, and freezes it again step by step: its word follows each step.
+fn freeze<R: Abort + Wait + Threads + Sync>(
+    rt: &R,
+    alloc: Global,
+    store: &Store,
+    session: &mut Session,
+    worker: &mut Session,
+) -> Result<(), Fail>
+    requires session { IsFreeSession store.now session.old }
+    requires worker { IsFreeSession store.now worker.old }
+    requires room { HasRoomFor (2 ^ 10) session.old }
+    requires room_to_work { HasRoomFor (2 ^ 40) worker.old }
+    requires block { HasBlock (shape_in store.now) 0 0 }
+    requires known { is_block_of (shape_in store.now).tables 0 0 ≡ true }
+    ensures session { OnOk result (IsFreeSession store.now session.new) }
+    ensures worker { OnOk result (IsFreeSession store.now worker.new) }
+    ensures few { OnOk result (MakesAtMost (2 ^ 10) session.old session.new) }
+{
+    write_all(rt, alloc, store, session, &[Update(1)])?;
+    assert_eq!(rt; store.word_of(0, 0), 3 * STAMP);
+    store.prune(rt, worker);
+    store.observe(rt, worker);
+    store.observe(rt, worker);
+    assert_eq!(rt; store.word_of(0, 0), COOLING | 3 * STAMP);
+    store.seal(rt, worker, 0, 0).ok();
+    assert_eq!(rt; store.word_of(0, 0), FREEZING | 4 * STAMP);
+    store.gather(rt, worker, 0, 0).ok();
+    assert_eq!(rt; store.word_of(0, 0), FROZEN | 4 * STAMP);
+    Ok(())
+}
+
+/// The last image of the block is then lent, and exported to a sink that fails in its bytes.
 #[test]
 fn a_block_lives_turn_by_turn(rt: HostRuntime) -> Result<(), Fail> {
     let alloc = rt.alloc();
@@ -227,5 +287,6 @@ fn a_block_lives_turn_by_turn(rt: HostRuntime) -> Result<(), Fail> {
     } = Store::build(alloc, tables(alloc)?, 2, 0)?;
     let (front, back) = sessions.split_at_mut(1);
     live(&rt, alloc, &store, &mut front[0], &mut back[0])?;
-    break_off(&rt, alloc, &store, &mut front[0])
+    freeze(&rt, alloc, &store, &mut front[0], &mut back[0])?;
+    read_frozen(&rt, alloc, &store, &mut front[0], &mut back[0])
 }

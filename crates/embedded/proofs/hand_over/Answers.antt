@@ -1,4 +1,4 @@
-use Rattle.std.proofs.Common.{[], sym, subst, ◌∙◌}
+use Rattle.std.proofs.Common.{[], sym, subst, ◌∙◌, arith}
 use Rattle.std.specs.Int.{w64}
 use Rattle.std.proofs.lemmas.Int.{to_z-of_z}
 use Rattle.isolation_spec.specs.Contents.{place_of}
@@ -87,3 +87,18 @@ pub returns-clause-no_room : goal.returns-clause-no_room
 returns-clause-no_room g c =
     told_done c.args.one.now c.args.two.now 4 2 c.has_room.result c.has_room-else-not-has_room.result c.has_room.ensures c.has_room-else-not-has_room.ensures
     c.if-not-has_room.false c.if-not-has_room-2.false _
+
+pub returns-in_err-own-clause-no_room : goal.returns-in_err-own-clause-no_room
+returns-in_err-own-clause-no_room g c =
+    told_memory c.args.one.now c.args.two.now 4 2 c.has_room.result c.has_room-else-not-has_room.result c.has_room.ensures c.has_room-else-not-has_room.ensures
+    c.if-not-has_room.false c.if-not-has_room-2.false c.from_residual-in_err-own.result c.from_residual-in_err-own.ensures.1
+
+pub begin-requires-2-clause-room : goal.begin-requires-2-clause-room
+begin-requires-2-clause-room g c =
+    let room = c.has_room-else-not-has_room.ensures.0 c.if-not-has_room-2.false in
+    omega (arith, room, c.meet.ensures.b.made)
+
+pub get-requires-2-clause-room : goal.get-requires-2-clause-room
+get-requires-2-clause-room g c =
+    let room = c.has_room-else-not-has_room.ensures.0 c.if-not-has_room-2.false in
+    omega (arith, room, c.meet.ensures.b.made, c.begin-2.ensures.few)

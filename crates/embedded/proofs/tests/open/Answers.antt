@@ -12,3 +12,9 @@ returns-clause-rest c = (
   (next_new c.in_ok-store.field-0.store 2 _ _ _ _ _ c.in-Some.ensures.items c.in-Some-pop.ensures.items c.in_ok-store.ensures.sessions).1.rests,
   (last_new c.in_ok-store.field-0.store 2 _ _ _ c.in-Some.ensures.items c.in_ok-store.ensures.sessions).1.rests,
 )
+
+pub returns-clause-free : goal.returns-clause-free
+returns-clause-free c = (
+  (next_new c.in_ok-store.field-0.store 2 _ _ _ _ _ c.in-Some.ensures.items c.in-Some-pop.ensures.items c.in_ok-store.ensures.sessions).1.free,
+  (last_new c.in_ok-store.field-0.store 2 _ _ _ c.in-Some.ensures.items c.in_ok-store.ensures.sessions).1.free,
+)

@@ -1,4 +1,4 @@
-use Rattle.std.proofs.Common.{◌≡◌, ◌<◌, ℕ, true, List, Option, Err, is_some, refl, ap, subst, ◌∙◌, arith}
+use Rattle.std.proofs.Common.{◌≡◌, ◌<◌, ℕ, not, true, List, Option, Err, is_some, refl, ap, subst, ◌∙◌, arith}
 use Rattle.std.specs.Io.KnownBytes.{Appends}
 use Rattle.arrow_spec.specs.Streams.{end_word, schema_message}
 use Rattle.cell_model.specs.declared.column.Column.{Column}
@@ -7,9 +7,12 @@ use Rattle.event_spec.specs.Parts.{Shape, blocks_of}
 use Rattle.event_spec.specs.Replay.{columns_in}
 use Rattle.ipc_write.specs.Calls.{MakesPiece}
 use Rattle.ipc_write.specs.declared.faults.PieceFault.TheVariants.{Sink}
-use Rattle.run_spec.specs.Told.{rows_told}
+use Rattle.run_spec.specs.Occurrences.{Occurrence}
+use Rattle.run_spec.specs.Told.{is_shared, rows_told}
 use Rattle.shared_store.specs.Store.{shape_in}
 use Rattle.shared_store.proofs.Calls.{own_open}
+use Rattle.shared_store.proofs.Claims.{free_on}
+use Rattle.std.proofs.lemmas.List.Sums.{count_by-le-length}
 use Rattle.store_export.proofs.Course.{Sending, block_broke, end_broke, ended, first_leaves, end_leaves, more_few, piece_is_now, piece_leaves, same_fault, schema_broke, sending_count, sending_more, sending_starts}
 use Rattle.store_export.specs.Groups.{group_message}
 use Rattle.store_export.specs.declared.sent.Sent.{Sent}
@@ -49,11 +52,17 @@ send_block-requires-clause-room g c =
     let many = sending_count c.args.store.now o.0 c.args.table c.args.session.now c.loop-block.session c.loop-block.block (g.W.Sink.written c.args.writer.now.sink) (g.W.Sink.written c.loop-block.writer.sink)
     c.loop-block.sent c.args.steps.now c.loop-block.steps s in
     let count = s.went.count in
+    let events = count_by-le-length (λ (o : Occurrence). not (is_shared o.reply)) s.made in
     let room = c.requires.room in
     let few = c.blocks-block-end.ensures.few in
     let below = c.loop-block-test.true in
     let end' = c.loop-block.auto.block-end in
-    omega (arith, many, count, room, few, below, end')
+    omega (arith, many, count, events, room, few, below, end')
+
+pub send_block-requires-clause-free : goal.send_block-requires-clause-free
+send_block-requires-clause-free g c =
+    let o = own_open c.args.session.now c.requires.busy in
+    free_on (c.loop-block.invariant.sending o.0 o.1).went.reads c.requires.free
 
 pub send_block-requires-clause-busy : goal.send_block-requires-clause-busy
 send_block-requires-clause-busy g c =
@@ -110,7 +119,7 @@ returns-in-Err-send_block-clause-exports g c own is clean =
     let end' = c.loop-block.auto.block-end in
     block_broke st own c.args.table c.args.session.now c.requires.session is clean g.W.Sink.written g.W.Sink.faults c.loop-block.session c.send_block.new.session c.loop-block.block
     (g.W.Sink.written c.args.writer.now.sink) c.loop-block.writer c.send_block.new.writer c.loop-block.sent c.args.steps.now c.loop-block.steps c.send_block.new.steps c.in-Err-send_block.fault s
-    c.loop-block.invariant.fresh (omega (arith, blocks, below, end')) b
+    c.loop-block.invariant.fresh (free_on s.went.reads c.requires.free) (omega (arith, blocks, below, end')) b
 
 pub returns-in-Err-send_block-clause-writer : goal.returns-in-Err-send_block-clause-writer
 returns-in-Err-send_block-clause-writer g c =
@@ -177,9 +186,9 @@ loop-block-preserved g c =
       sending = λ own is.
           let s = inv.sending own is in
           let b = c.in-Ok.ensures.sends own (s.went.opened ∙ is) in
-          sending_more st own c.args.table c.args.session.now c.loop-block.session c.send_block.new.session c.loop-block.block (g.W.Sink.written c.args.writer.now.sink) (g.W.Sink.written c.loop-block.writer.sink)
-          c.loop-block.sent c.args.steps.now c.loop-block.steps b.told s b.reads within (g.W.Sink.written c.send_block.new.writer.sink) c.in-Ok.more c.add.new.self c.send_block.new.steps b.granted b.slots
-          b.writes.bytes b.counts b.few c.add.ensures.rows c.add.ensures.batches c.add.ensures.frozen;
+          sending_more st own c.args.table g.W.Sink.written g.W.Sink.faults c.args.session.now c.loop-block.session c.send_block.new.session c.loop-block.block (g.W.Sink.written c.args.writer.now.sink)
+          c.loop-block.writer c.send_block.new.writer c.loop-block.sent c.in-Ok.more c.add.new.self c.args.steps.now c.loop-block.steps c.send_block.new.steps s b
+          (free_on s.went.reads c.requires.free) within c.add.ensures.rows c.add.ensures.batches c.add.ensures.frozen;
       first = inv.first;
       fresh = first.writes.after;
       started = c.send_block.ensures.started ∙ inv.started;

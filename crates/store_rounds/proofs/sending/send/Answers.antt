@@ -16,7 +16,7 @@ returns-then-not-busy-clause-answered g c =
 pub returns-in-Ok-clause-answered : goal.returns-in-Ok-clause-answered
 returns-in-Ok-clause-answered g c =
     export_answered c.args.store.now c.args.session.now c.export_to.new.session c.args.table (Ok c.in-Ok.field-0) _ _
-    c.in-Ok.ensures.exports
+    c.requires.session c.in-Ok.ensures.exports
 
 pub returns-in-Err-Sink-clause-answered : goal.returns-in-Err-Sink-clause-answered
 returns-in-Err-Sink-clause-answered g c =
@@ -24,7 +24,7 @@ returns-in-Err-Sink-clause-answered g c =
     (g.X.Sink.written c.args.outlet.now) (g.X.Sink.written c.export_to.new.outlet))
     (ap (λ (failed : ExportFault). exported_told (Err failed)) c.in-Err-Sink.field-0-is)
     (export_answered c.args.store.now c.args.session.now c.export_to.new.session c.args.table (Err c.in-Err-Sink.field-0) _ _
-    c.in-Err-Sink.ensures.exports)
+    c.requires.session c.in-Err-Sink.ensures.exports)
 
 pub returns-in-Err-Memory-clause-answered : goal.returns-in-Err-Memory-clause-answered
 returns-in-Err-Memory-clause-answered g c =
@@ -32,4 +32,4 @@ returns-in-Err-Memory-clause-answered g c =
     (g.X.Sink.written c.args.outlet.now) (g.X.Sink.written c.export_to.new.outlet))
     (ap (λ (failed : ExportFault). exported_told (Err failed)) c.in-Err-Memory.field-0-is)
     (export_answered c.args.store.now c.args.session.now c.export_to.new.session c.args.table (Err c.in-Err-Memory.field-0) _ _
-    c.in-Err-Memory.ensures.exports)
+    c.requires.session c.in-Err-Memory.ensures.exports)

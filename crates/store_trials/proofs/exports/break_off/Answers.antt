@@ -40,10 +40,9 @@ export_uncounted-again-requires-clause-room g c =
     let room = c.requires.room in
     omega (arith, begun, one, room)
 
-pub write-requires-clause-room : goal.write-requires-clause-room
-write-requires-clause-room g c =
+pub returns-clause-few : goal.returns-clause-few
+returns-clause-few g c =
     let begun = begin_few c.args.store.now c.args.session.now c.begin.new.session _ c.begin.ensures.answers in
     let one = export_few c.args.store.now c.begin.new.session c.export_uncounted-first.new.session _ c.tables-tables.ensures.few c.export_uncounted-first.ensures.exports.answers in
     let two = export_few c.args.store.now c.export_uncounted-first.new.session c.export_uncounted-again.new.session _ c.tables-tables.ensures.few c.export_uncounted-again.ensures.exports.answers in
-    let room = c.requires.room in
-    omega (arith, begun, one, two, room)
+    omega (arith, begun, one, two)

@@ -45,8 +45,8 @@ live-requires-clause-room_to_work g c κs =
     (subst (IsNewRow c.in_ok-store.field-0.store 2) row c.in_ok-store.ensures.sessions) c.split_at_mut-front.ensures.back).made in
     omega (arith, made)
 
-pub break_off-requires-clause-room : goal.break_off-requires-clause-room
-break_off-requires-clause-room g c =
+pub read_frozen-requires-clause-room : goal.read_frozen-requires-clause-room
+read_frozen-requires-clause-room g c =
     let row : c.in_ok-store.field-0.sessions.items ≡ c.deref_mut.result.now = cc in
     let made = (first_new c.in_ok-store.field-0.store c.deref_mut.result.now c.split_at_mut-front.result.0.now c.index-front-0.result
     (subst (IsNewRow c.in_ok-store.field-0.store 2) row c.in_ok-store.ensures.sessions) c.split_at_mut-front.ensures.front).made in

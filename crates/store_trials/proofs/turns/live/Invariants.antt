@@ -1,12 +1,13 @@
 use Rattle.std.proofs.Common.{◌≤◌, ◌+◌, ◌*◌, ◌^◌}
-use Rattle.shared_store.specs.Store.{IsSession, events_made}
+use Rattle.shared_store.specs.Store.{events_made}
+use Rattle.store_rounds.specs.Sessions.{IsFreeSession}
 use Rattle.store_rounds.specs.Turns.{most_of_turn}
 use Rattle.store_trials.proofs.turns.live.Given as goal
 
 abbrev pub invariant-loop-case : goal.invariant-loop-case
 invariant-loop-case g l = record {
-  session : IsSession l.fn.store l.session;
-  worker : IsSession l.fn.store l.worker;
+  session : IsFreeSession l.fn.store l.session;
+  worker : IsFreeSession l.fn.store l.worker;
   written : events_made l.session ≤ events_made l.fn.session + 2 ^ 10 * l.case-index;
   made : events_made l.worker ≤ events_made l.fn.worker + most_of_turn * l.case-index;
 }

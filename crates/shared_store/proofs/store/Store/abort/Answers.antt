@@ -35,7 +35,7 @@ returns-clause-session g c =
     let m = subst (λ (e : CoreEvent). Makes c.args.self.now s.session s.pass.seat c.make_at_desk.new.pass.seat c.make_at_desk.new.pass.hands (own_of s) e c.make_at_desk.result) c.ending-event.ensures
     (c.make_at_desk.ensures s.session (own_of s) c.requires.session.stands mine) in
     let new : Session = record { pass = c.make_at_desk.new.pass; session = s.session; snapshot = None; writes = s.writes } in
-    (one_event c.args.self.now s new command.Abort (event.Abort t) c.make_at_desk.result said.Aborted c.requires.session m refl refl
+    (one_event c.args.self.now s new command.Abort (event.Abort t) c.make_at_desk.result said.Aborted c.requires.session refl m refl refl
     (ap (refusal_of command.Abort) c.own_all-own.ensures) (λ made. ap (λ (o : Option OwnTransaction). events_of (shape_in c.args.self.now) o s.session command.Abort made) c.own_all-own.ensures)
     (subst (λ (r : CoreReply). TellsLine (own_of s) command.Abort r said.Aborted) (sym c.in-Aborted.is) refl)).0
 
@@ -48,7 +48,7 @@ returns-clause-answers g c =
     let m = subst (λ (e : CoreEvent). Makes c.args.self.now s.session s.pass.seat c.make_at_desk.new.pass.seat c.make_at_desk.new.pass.hands (own_of s) e c.make_at_desk.result) c.ending-event.ensures
     (c.make_at_desk.ensures s.session (own_of s) c.requires.session.stands mine) in
     let new : Session = record { pass = c.make_at_desk.new.pass; session = s.session; snapshot = None; writes = s.writes } in
-    (one_event c.args.self.now s new command.Abort (event.Abort t) c.make_at_desk.result said.Aborted c.requires.session m refl refl
+    (one_event c.args.self.now s new command.Abort (event.Abort t) c.make_at_desk.result said.Aborted c.requires.session refl m refl refl
     (ap (refusal_of command.Abort) c.own_all-own.ensures) (λ made. ap (λ (o : Option OwnTransaction). events_of (shape_in c.args.self.now) o s.session command.Abort made) c.own_all-own.ensures)
     (subst (λ (r : CoreReply). TellsLine (own_of s) command.Abort r said.Aborted) (sym c.in-Aborted.is) refl)).1
 

@@ -33,7 +33,7 @@ returns-clause-session g c =
     let m = subst (λ (e : CoreEvent). Makes c.args.self.now s.session s.pass.seat c.make_at_desk.new.pass.seat c.make_at_desk.new.pass.hands (own_of s) e c.make_at_desk.result) c.new-event.ensures
     (c.make_at_desk.ensures s.session (own_of s) c.requires.session.stands mine) in
     let new : Session = record { pass = c.make_at_desk.new.pass; session = s.session; snapshot = Some c.in-Begun.snapshot; writes = c.clear.new.self } in
-    (one_event c.args.self.now s new command.Begin (event.Begin s.session) c.make_at_desk.result (said.At c.in-Begun.snapshot.number) c.requires.session m refl
+    (one_event c.args.self.now s new command.Begin (event.Begin s.session) c.make_at_desk.result (said.At c.in-Begun.snapshot.number) c.requires.session refl m refl
     (ap (λ w. Some (opened_at s.session w c.in-Begun.snapshot)) c.clear.ensures ∙ ap (begun_by s.session (own_of s)) (sym c.in-Begun.is))
     (ap (refusal_of command.Begin) none') (λ made. refl)
     (subst (λ (r : CoreReply). TellsLine (own_of s) command.Begin r (said.At c.in-Begun.snapshot.number)) (sym c.in-Begun.is) refl)).0
@@ -46,7 +46,7 @@ returns-clause-answers g c =
     let m = subst (λ (e : CoreEvent). Makes c.args.self.now s.session s.pass.seat c.make_at_desk.new.pass.seat c.make_at_desk.new.pass.hands (own_of s) e c.make_at_desk.result) c.new-event.ensures
     (c.make_at_desk.ensures s.session (own_of s) c.requires.session.stands mine) in
     let new : Session = record { pass = c.make_at_desk.new.pass; session = s.session; snapshot = Some c.in-Begun.snapshot; writes = c.clear.new.self } in
-    (one_event c.args.self.now s new command.Begin (event.Begin s.session) c.make_at_desk.result (said.At c.in-Begun.snapshot.number) c.requires.session m refl
+    (one_event c.args.self.now s new command.Begin (event.Begin s.session) c.make_at_desk.result (said.At c.in-Begun.snapshot.number) c.requires.session refl m refl
     (ap (λ w. Some (opened_at s.session w c.in-Begun.snapshot)) c.clear.ensures ∙ ap (begun_by s.session (own_of s)) (sym c.in-Begun.is))
     (ap (refusal_of command.Begin) none') (λ made. refl)
     (subst (λ (r : CoreReply). TellsLine (own_of s) command.Begin r (said.At c.in-Begun.snapshot.number)) (sym c.in-Begun.is) refl)).1
@@ -64,7 +64,7 @@ returns-clause-opens g c =
     let m = subst (λ (e : CoreEvent). Makes c.args.self.now s.session s.pass.seat c.make_at_desk.new.pass.seat c.make_at_desk.new.pass.hands (own_of s) e c.make_at_desk.result) c.new-event.ensures
     (c.make_at_desk.ensures s.session (own_of s) c.requires.session.stands mine) in
     let new : Session = record { pass = c.make_at_desk.new.pass; session = s.session; snapshot = Some c.in-Begun.snapshot; writes = c.clear.new.self } in
-    let is = (one_event c.args.self.now s new command.Begin (event.Begin s.session) c.make_at_desk.result (said.At c.in-Begun.snapshot.number) c.requires.session m refl
+    let is = (one_event c.args.self.now s new command.Begin (event.Begin s.session) c.make_at_desk.result (said.At c.in-Begun.snapshot.number) c.requires.session refl m refl
     (ap (λ w. Some (opened_at s.session w c.in-Begun.snapshot)) c.clear.ensures ∙ ap (begun_by s.session (own_of s)) (sym c.in-Begun.is))
     (ap (refusal_of command.Begin) none') (λ made. refl)
     (subst (λ (r : CoreReply). TellsLine (own_of s) command.Begin r (said.At c.in-Begun.snapshot.number)) (sym c.in-Begun.is) refl)).0 in

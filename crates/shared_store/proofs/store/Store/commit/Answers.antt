@@ -37,7 +37,7 @@ returns-clause-session g c =
     let m = subst (λ (e : CoreEvent). Makes c.args.self.now s.session s.pass.seat c.make_at_desk.new.pass.seat c.make_at_desk.new.pass.hands (own_of s) e c.make_at_desk.result) c.ending-event.ensures
     (c.make_at_desk.ensures s.session (own_of s) c.requires.session.stands mine) in
     let new : Session = record { pass = c.make_at_desk.new.pass; session = s.session; snapshot = None; writes = s.writes } in
-    (one_event c.args.self.now s new command.Commit (event.Commit t) c.make_at_desk.result (said.Committed c.in-Committed.number) c.requires.session m refl refl
+    (one_event c.args.self.now s new command.Commit (event.Commit t) c.make_at_desk.result (said.Committed c.in-Committed.number) c.requires.session refl m refl refl
     (ap (refusal_of command.Commit) c.own_all-own.ensures) (λ made. ap (λ (o : Option OwnTransaction). events_of (shape_in c.args.self.now) o s.session command.Commit made) c.own_all-own.ensures)
     (subst (λ (r : CoreReply). TellsLine (own_of s) command.Commit r (said.Committed c.in-Committed.number)) (sym c.in-Committed.is) refl)).0
 
@@ -50,7 +50,7 @@ returns-clause-answers g c =
     let m = subst (λ (e : CoreEvent). Makes c.args.self.now s.session s.pass.seat c.make_at_desk.new.pass.seat c.make_at_desk.new.pass.hands (own_of s) e c.make_at_desk.result) c.ending-event.ensures
     (c.make_at_desk.ensures s.session (own_of s) c.requires.session.stands mine) in
     let new : Session = record { pass = c.make_at_desk.new.pass; session = s.session; snapshot = None; writes = s.writes } in
-    (one_event c.args.self.now s new command.Commit (event.Commit t) c.make_at_desk.result (said.Committed c.in-Committed.number) c.requires.session m refl refl
+    (one_event c.args.self.now s new command.Commit (event.Commit t) c.make_at_desk.result (said.Committed c.in-Committed.number) c.requires.session refl m refl refl
     (ap (refusal_of command.Commit) c.own_all-own.ensures) (λ made. ap (λ (o : Option OwnTransaction). events_of (shape_in c.args.self.now) o s.session command.Commit made) c.own_all-own.ensures)
     (subst (λ (r : CoreReply). TellsLine (own_of s) command.Commit r (said.Committed c.in-Committed.number)) (sym c.in-Committed.is) refl)).1
 
@@ -63,7 +63,7 @@ returns-clause-commits g c =
     let m = subst (λ (e : CoreEvent). Makes c.args.self.now s.session s.pass.seat c.make_at_desk.new.pass.seat c.make_at_desk.new.pass.hands (own_of s) e c.make_at_desk.result) c.ending-event.ensures
     (c.make_at_desk.ensures s.session (own_of s) c.requires.session.stands mine) in
     let new : Session = record { pass = c.make_at_desk.new.pass; session = s.session; snapshot = None; writes = s.writes } in
-    let is = (one_event c.args.self.now s new command.Commit (event.Commit t) c.make_at_desk.result (said.Committed c.in-Committed.number) c.requires.session m refl refl
+    let is = (one_event c.args.self.now s new command.Commit (event.Commit t) c.make_at_desk.result (said.Committed c.in-Committed.number) c.requires.session refl m refl refl
     (ap (refusal_of command.Commit) c.own_all-own.ensures) (λ made. ap (λ (o : Option OwnTransaction). events_of (shape_in c.args.self.now) o s.session command.Commit made) c.own_all-own.ensures)
     (subst (λ (r : CoreReply). TellsLine (own_of s) command.Commit r (said.Committed c.in-Committed.number)) (sym c.in-Committed.is) refl)).0 in
     commits_own c.args.self.now s new t c.in-Committed.number c.requires.session is refl owns.0

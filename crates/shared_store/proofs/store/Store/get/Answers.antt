@@ -34,7 +34,7 @@ make-requires g c =
     let owns = own_stands st s o.0 c.requires.session o.1 in
     let mine : IsOfSession s.session (event.Get k c.args.table c.args.key) = inl (ap Some owns.0) in
     subst (MayMake st s.pass.seat s.pass.hands) (sym is_event)
-    (may_make st s (event.Get k c.args.table c.args.key) c.requires.session c.requires.room mine (key_stands st s o.0 c.args.table c.args.key c.requires.session o.1) (λ parts holds stamp. c.requires.table))
+    (may_make st s (event.Get k c.args.table c.args.key) c.requires.session c.requires.room mine refl (key_stands st s o.0 c.args.table c.args.key c.requires.session o.1) (λ parts holds stamp. c.requires.table))
 
 pub unreachable-requires : goal.unreachable-requires
 unreachable-requires g c =
@@ -70,7 +70,7 @@ returns-in-Found-clause-session g c =
     let m = subst (λ (e : CoreEvent). Makes st s.session s.pass.seat c.make.new.pass.seat c.make.new.pass.hands (own_of s) e c.make.result) is_event
     (c.make.ensures s.session (own_of s) c.requires.session.stands (subst (IsOfSession s.session) (sym is_event) mine)) in
     let new : Session = record { pass = c.make.new.pass; session = s.session; snapshot = s.snapshot; writes = s.writes } in
-    (one_event st s new (command.Get c.args.table c.args.key) (event.Get k c.args.table c.args.key) c.make.result (row_told c.in-Found.row) c.requires.session m refl refl
+    (one_event st s new (command.Get c.args.table c.args.key) (event.Get k c.args.table c.args.key) c.make.result (row_told c.in-Found.row) c.requires.session refl m refl refl
     (ap (refusal_of (command.Get c.args.table c.args.key)) o.1) (λ made. ap (λ (x : Option OwnTransaction). events_of (shape_in st) x s.session (command.Get c.args.table c.args.key) made) o.1)
     (subst (λ (r : CoreReply). TellsLine (own_of s) (command.Get c.args.table c.args.key) r (row_told c.in-Found.row)) (sym c.in-Found.is) refl)).0
 
@@ -90,7 +90,7 @@ returns-in-Found-clause-answers g c =
     let m = subst (λ (e : CoreEvent). Makes st s.session s.pass.seat c.make.new.pass.seat c.make.new.pass.hands (own_of s) e c.make.result) is_event
     (c.make.ensures s.session (own_of s) c.requires.session.stands (subst (IsOfSession s.session) (sym is_event) mine)) in
     let new : Session = record { pass = c.make.new.pass; session = s.session; snapshot = s.snapshot; writes = s.writes } in
-    (one_event st s new (command.Get c.args.table c.args.key) (event.Get k c.args.table c.args.key) c.make.result (row_told c.in-Found.row) c.requires.session m refl refl
+    (one_event st s new (command.Get c.args.table c.args.key) (event.Get k c.args.table c.args.key) c.make.result (row_told c.in-Found.row) c.requires.session refl m refl refl
     (ap (refusal_of (command.Get c.args.table c.args.key)) o.1) (λ made. ap (λ (x : Option OwnTransaction). events_of (shape_in st) x s.session (command.Get c.args.table c.args.key) made) o.1)
     (subst (λ (r : CoreReply). TellsLine (own_of s) (command.Get c.args.table c.args.key) r (row_told c.in-Found.row)) (sym c.in-Found.is) refl)).1
 
@@ -110,7 +110,7 @@ returns-in-Memory-clause-session g c =
     let m = subst (λ (e : CoreEvent). Makes st s.session s.pass.seat c.make.new.pass.seat c.make.new.pass.hands (own_of s) e c.make.result) is_event
     (c.make.ensures s.session (own_of s) c.requires.session.stands (subst (IsOfSession s.session) (sym is_event) mine)) in
     let new : Session = record { pass = c.make.new.pass; session = s.session; snapshot = s.snapshot; writes = s.writes } in
-    (one_event st s new (command.Get c.args.table c.args.key) (event.Get k c.args.table c.args.key) c.make.result said.Memory c.requires.session m refl refl
+    (one_event st s new (command.Get c.args.table c.args.key) (event.Get k c.args.table c.args.key) c.make.result said.Memory c.requires.session refl m refl refl
     (ap (refusal_of (command.Get c.args.table c.args.key)) o.1) (λ made. ap (λ (x : Option OwnTransaction). events_of (shape_in st) x s.session (command.Get c.args.table c.args.key) made) o.1)
     (subst (λ (r : CoreReply). TellsLine (own_of s) (command.Get c.args.table c.args.key) r said.Memory) (sym c.in-Memory.is) (refl, refl))).0
 
@@ -130,7 +130,7 @@ returns-in-Memory-clause-answers g c =
     let m = subst (λ (e : CoreEvent). Makes st s.session s.pass.seat c.make.new.pass.seat c.make.new.pass.hands (own_of s) e c.make.result) is_event
     (c.make.ensures s.session (own_of s) c.requires.session.stands (subst (IsOfSession s.session) (sym is_event) mine)) in
     let new : Session = record { pass = c.make.new.pass; session = s.session; snapshot = s.snapshot; writes = s.writes } in
-    (one_event st s new (command.Get c.args.table c.args.key) (event.Get k c.args.table c.args.key) c.make.result said.Memory c.requires.session m refl refl
+    (one_event st s new (command.Get c.args.table c.args.key) (event.Get k c.args.table c.args.key) c.make.result said.Memory c.requires.session refl m refl refl
     (ap (refusal_of (command.Get c.args.table c.args.key)) o.1) (λ made. ap (λ (x : Option OwnTransaction). events_of (shape_in st) x s.session (command.Get c.args.table c.args.key) made) o.1)
     (subst (λ (r : CoreReply). TellsLine (own_of s) (command.Get c.args.table c.args.key) r said.Memory) (sym c.in-Memory.is) (refl, refl))).1
 
@@ -150,7 +150,7 @@ returns-in-Found-clause-finds g c =
     let m = subst (λ (e : CoreEvent). Makes st s.session s.pass.seat c.make.new.pass.seat c.make.new.pass.hands (own_of s) e c.make.result) is_event
     (c.make.ensures s.session (own_of s) c.requires.session.stands (subst (IsOfSession s.session) (sym is_event) mine)) in
     let new : Session = record { pass = c.make.new.pass; session = s.session; snapshot = s.snapshot; writes = s.writes } in
-    let is = (one_event st s new (command.Get c.args.table c.args.key) (event.Get k c.args.table c.args.key) c.make.result (row_told c.in-Found.row) c.requires.session m refl refl
+    let is = (one_event st s new (command.Get c.args.table c.args.key) (event.Get k c.args.table c.args.key) c.make.result (row_told c.in-Found.row) c.requires.session refl m refl refl
     (ap (refusal_of (command.Get c.args.table c.args.key)) o.1) (λ made. ap (λ (x : Option OwnTransaction). events_of (shape_in st) x s.session (command.Get c.args.table c.args.key) made) o.1)
     (subst (λ (r : CoreReply). TellsLine (own_of s) (command.Get c.args.table c.args.key) r (row_told c.in-Found.row)) (sym c.in-Found.is) refl)).0 in
     finds_row st s new k c.args.table c.args.key c.in-Found.row c.requires.session is refl owns.0
@@ -172,7 +172,7 @@ returns-in-Memory-clause-finds g c =
     let m = subst (λ (e : CoreEvent). Makes st s.session s.pass.seat c.make.new.pass.seat c.make.new.pass.hands (own_of s) e c.make.result) is_event
     (c.make.ensures s.session (own_of s) c.requires.session.stands (subst (IsOfSession s.session) (sym is_event) mine)) in
     let new : Session = record { pass = c.make.new.pass; session = s.session; snapshot = s.snapshot; writes = s.writes } in
-    let is = (one_event st s new (command.Get c.args.table c.args.key) (event.Get k c.args.table c.args.key) c.make.result said.Memory c.requires.session m refl refl
+    let is = (one_event st s new (command.Get c.args.table c.args.key) (event.Get k c.args.table c.args.key) c.make.result said.Memory c.requires.session refl m refl refl
     (ap (refusal_of (command.Get c.args.table c.args.key)) o.1) (λ made. ap (λ (x : Option OwnTransaction). events_of (shape_in st) x s.session (command.Get c.args.table c.args.key) made) o.1)
     (subst (λ (r : CoreReply). TellsLine (own_of s) (command.Get c.args.table c.args.key) r said.Memory) (sym c.in-Memory.is) (refl, refl))).0 in
     finds_nothing st s new k c.args.table c.args.key _ c.requires.session is refl

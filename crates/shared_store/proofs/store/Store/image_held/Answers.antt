@@ -51,7 +51,7 @@ returns g c session own within =
     let fits = subst (λ (sh : Shape). (s : Parts) → CoreHolds sh s → Agrees (first_of p.hands) s → IsImageOf c.in-Ok.image (body_at sh s t b) (body_at sh s t b).phase) shape
     (subst (λ (hand : Rattle.core_parts.specs.Hands.Held). (s : Parts) → CoreHolds c.shape-shape.result.now s → Agrees hand s → IsImageOf c.in-Ok.image (body_at c.shape-shape.result.now s t b) (body_at c.shape-shape.result.now s t b).phase) c.hand.ensures c.in-Ok.ensures) in
     let m = subst (λ (e : CoreEvent). MakesHeld st session p.seat u.seat p.hands u.hands own e c.make_on.result) c.new-event.ensures
-    (c.make_on.ensures session own within (subst (IsOfSession session) (sym c.new-event.ensures) (inr refl))) in
+    (c.make_on.ensures 0 session own within (subst (IsOfSession session) (sym c.new-event.ensures) (inr refl))) in
     let before = parts_after (shape_in st) m.makes.before in
     let lawful : IsLawfulLog (shape_in st) (Rattle.store_laws.specs.Logs.made_in (log_of u.seat.me.0.log)) = lawful_same (shape_in st) u.seat.me.0.log m.within.pass.of.1.lawful in
     let holds = holds_before (shape_in st) m.makes.before (entry_of session e c.make_on.result) (log_of u.seat.me.0.log) m.within.pass.of.1.begins m.makes.log lawful in

@@ -89,7 +89,7 @@ answered g c m =
     let line = written_told c.args.table c.answer_of.result in
     let new : Session = record { pass = c.make_write.new.pass; session = s.session; snapshot = s.snapshot; writes = c.make_write.new.writes } in
     let wrote : c.make_write.new.writes ≡ settled s.writes (place_of c.args.table c.args.row) told = c.in-Ok.ensures.writes ∙ ap (λ p. settled s.writes p told) c.place_in-place.ensures.place in
-    one_event st s new asked (inserting o.0 c.args.table c.args.row) told line c.requires.session m refl
+    one_event st s new asked (inserting o.0 c.args.table c.args.row) told line c.requires.session refl m refl
     (settled_own s.session s.writes c.make_write.new.writes (place_of c.args.table c.args.row) told s.snapshot wrote)
     (ap (refusal_of asked) o.1) (λ made. ap (λ (x : Option OwnTransaction). events_of (shape_in st) x s.session asked made) o.1)
     (tells_write (own_of s) asked c.args.table told line refl refl (c.answer_of.ensures.tells c.args.table))
@@ -109,7 +109,7 @@ make_write-requires-clause-may g c =
     let o = own_open s c.requires.busy in
     let at' = (goal.at.make_write-requires-clause-may g c).After-new-event in
     subst (MayMake st s.pass.seat s.pass.hands) (sym (is_insert g at'))
-    (may_make st s (inserting o.0 c.args.table c.args.row) c.requires.session c.requires.room (mine g at')
+    (may_make st s (inserting o.0 c.args.table c.args.row) c.requires.session c.requires.room (mine g at') refl
     (key_stands st s o.0 c.args.table (key_of c.args.row) c.requires.session o.1)
     (λ parts holds stamp. fits_there (shape_in st) c.args.table c.args.row c.requires.fits))
 

@@ -21,7 +21,7 @@ pub give_part-requires-clause-pass : goal.give_part-requires-clause-pass
 give_part-requires-clause-pass g c =
     let r = c.requires.may in
     let takes = c.take_for.ensures.takes r.session r.own r.at' in
-    let held = c.make_on-reply.ensures r.session r.own takes.within r.mine in
+    let held = c.make_on-reply.ensures 0 r.session r.own takes.within r.mine in
     (r.session, own_behind r.own c.args.event c.make_on-reply.result, held.within)
 
 pub give_part-requires-clause-held : goal.give_part-requires-clause-held
@@ -31,7 +31,7 @@ give_part-requires-clause-held g c =
     let t = c.take_for.new.pass in
     let u = c.make_on-reply.new.pass in
     let takes = c.take_for.ensures.takes r.session r.own r.at' in
-    let held = c.make_on-reply.ensures r.session r.own takes.within r.mine in
+    let held = c.make_on-reply.ensures 0 r.session r.own takes.within r.mine in
     let number = subst (λ (sh : Shape). slice_get (names sh) c.desk-desk.result ≡ Some TheDesk)
     (c.shape.ensures ∙ c.self.invariant.shape ∙ ap shape_in c.self.view_is) c.desk-desk.ensures.number in
     desk_held (shape_in st) c.args.event c.desk-desk.result number c.requires.desk (first_of t.hands) (first_of u.hands)
@@ -41,7 +41,7 @@ pub give_back-requires : goal.give_back-requires
 give_back-requires g c =
     let r = c.requires.may in
     let takes = c.take_for.ensures.takes r.session r.own r.at' in
-    let held = c.make_on-reply.ensures r.session r.own takes.within r.mine in
+    let held = c.make_on-reply.ensures 0 r.session r.own takes.within r.mine in
     let own = own_behind r.own c.args.event c.make_on-reply.result in
     (r.session, own, (c.give_part.ensures.gives r.session own held.within).within)
 
@@ -55,7 +55,7 @@ returns g c session own at' mine =
     let w = c.give_back.new.pass in
     let told = c.make_on-reply.result in
     let takes = c.take_for.ensures.takes session own at' in
-    let held = c.make_on-reply.ensures session own takes.within mine in
+    let held = c.make_on-reply.ensures 0 session own takes.within mine in
     let after = own_behind own c.args.event told in
     let part = c.give_part.ensures.gives session after held.within in
     let rest = c.give_back.ensures session after part.within in

@@ -14,7 +14,7 @@ make_held-reply-requires g c =
 pub give_back-requires : goal.give_back-requires
 give_back-requires g c =
     let takes = c.take_for.ensures.takes c.requires.session c.requires.own c.requires.at' in
-    let held = c.make_held-reply.ensures.made c.requires.session c.requires.own takes.within c.requires.mine in
+    let held = c.make_held-reply.ensures.made 0 c.requires.session c.requires.own takes.within c.requires.mine in
     (c.requires.session, own_behind c.requires.own c.args.event c.make_held-reply.result, held.within)
 
 pub returns-clause-made : goal.returns-clause-made
@@ -25,6 +25,6 @@ returns-clause-made g c session own at' mine =
     let w = c.give_back.new.pass in
     let told = c.make_held-reply.result in
     let takes = c.take_for.ensures.takes session own at' in
-    let held = c.make_held-reply.ensures.made session own takes.within mine in
+    let held = c.make_held-reply.ensures.made 0 session own takes.within mine in
     let gives = c.give_back.ensures session (own_behind own c.args.event told) held.within in
     made_whole c.args.self.now session s.seat t.seat u.seat w.seat t.hands u.hands w.hands own c.args.event told takes held gives

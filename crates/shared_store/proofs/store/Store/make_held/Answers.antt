@@ -1,5 +1,6 @@
 use Rattle.std.proofs.Common.{◌≡◌, ℕ, sym, subst}
 use Rattle.std.specs.Prelude.{MatchBool}
+use Rattle.core_laws.specs.Words.Words.{thawed_part}
 use Rattle.engine_core.specs.Core.{is_memory}
 use Rattle.event_spec.specs.Effects.{CoreEvent}
 use Rattle.event_spec.specs.Lawful.{FitsIn, Opened}
@@ -8,9 +9,9 @@ use Rattle.event_spec.specs.Replies.{reply_to}
 use Rattle.hall_rule.specs.EventLog.{replay}
 use Rattle.hall_rule.specs.Meaning.{Meaning}
 use Rattle.hall_rule.specs.Views.{entry_of}
-use Rattle.hall_steps.specs.Hall.{Extends, IsPass, first_of}
+use Rattle.hall_steps.specs.Hall.{Extends, IsPass, IsPassAt, first_of, thawed_by}
 use Rattle.shared_store.specs.Making.{MakesHeld, MayMakeHeld}
-use Rattle.shared_store.specs.Store.{IsWithin, StoreView}
+use Rattle.shared_store.specs.Store.{IsWithinAt, StoreView}
 use Rattle.shared_store.proofs.Made.{made_event}
 use Rattle.shared_store.proofs.Sessions.{hall_meaning, is_meaning}
 use Rattle.shared_store.proofs.store.Store.make_held.Goals as goal
@@ -20,7 +21,8 @@ event-requires-clause-pass g c κs within =
     let h = c.self.inside.hall in
     let s = c.args.pass.now in
     let may = subst (λ (st : StoreView). MayMakeHeld st s.seat s.hands c.args.event) (sym c.self.view_is) c.requires in
-    subst (λ (m : Meaning CorePart CoreEvent Opened ℕ). IsPass m h.id s.seat s.hands) (sym (is_meaning h c.self.invariant)) may.within.pass
+    let there = subst (λ (m : Meaning CorePart CoreEvent Opened ℕ). IsPassAt m (thawed_by (thawed_part h.core.shape c.args.event)) h.id s.seat s.hands) (sym (is_meaning h c.self.invariant)) may.within.pass in
+    subst (λ (sh : Shape). IsPassAt (hall_meaning h) (thawed_by (thawed_part sh c.args.event)) h.id s.seat s.hands) (sym c.self.invariant.shape) there
 
 pub event-requires-clause-fits : goal.event-requires-clause-fits
 event-requires-clause-fits g c κs within =
@@ -31,7 +33,7 @@ event-requires-clause-fits g c κs within =
     subst (λ (sh : Shape). FitsIn sh c.args.event (replay (hall_meaning h) s.seat.me.0.log)) (sym c.self.invariant.shape) in_hall
 
 pub returns-clause-made : goal.returns-clause-made
-returns-clause-made g c session own within mine =
+returns-clause-made g c thawing session own within mine =
     let h = c.self.inside.hall in
     let t = c.args.pass.now in
     let u = c.event.new.pass in
@@ -43,6 +45,6 @@ returns-clause-made g c session own within mine =
     let extends = subst (λ (m : Meaning CorePart CoreEvent Opened ℕ). Extends m t.seat log.0 (entry_of t.seat.id t.seat.me.0 (is_memory told) e) u.seat) same log.1 in
     let said_here = subst (λ (sh : Shape). MatchBool (is_memory told) (first_of u.hands ≡ first_of t.hands) (told ≡ reply_to sh (replay (hall_meaning h) log.0) e)) c.self.invariant.shape log.2 in
     let said = subst (λ (m : Meaning CorePart CoreEvent Opened ℕ). MatchBool (is_memory told) (first_of u.hands ≡ first_of t.hands) (told ≡ reply_to h.core.shape (replay m log.0) e)) same said_here in
-    let here = subst (λ (st : StoreView). IsWithin st session t.seat t.hands own) (sym c.self.view_is) within in
+    let here = subst (λ (st : StoreView). IsWithinAt thawing st session t.seat t.hands own) (sym c.self.view_is) within in
     subst (λ (st : StoreView). MakesHeld st session t.seat u.seat t.hands u.hands own e told) c.self.view_is
-    (made_event h c.self.invariant t.seat u.seat t.hands u.hands e told made c.event.ensures.room log.0 extends (first_of u.hands ≡ first_of t.hands) said session own here mine)
+    (made_event h c.self.invariant t.seat u.seat t.hands u.hands e told made c.event.ensures.room log.0 extends (first_of u.hands ≡ first_of t.hands) said thawing session own here mine)

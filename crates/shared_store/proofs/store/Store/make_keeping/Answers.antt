@@ -39,7 +39,7 @@ make_on-reply-requires g c =
     let t = c.take_beside.new.pass in
     let e : CoreEvent = event_on c.args.on c.args.table c.args.block in
     subst (MayMakeHeld c.args.self.now t.seat t.hands) (sym c.event-event.ensures)
-    (may_make_taken c.args.self.now (subst IsStore c.self.view_is c.self.invariant) s.seat t.seat t.hands e r.session r.own r.mine r.stands r.fits r.few
+    (may_make_taken c.args.self.now (subst IsStore c.self.view_is c.self.invariant) s.seat t.seat t.hands e r.session r.own r.mine r.thawless r.stands r.fits r.few
     (c.take_beside.ensures.takes r.session r.own r.within))
 
 pub give_part-requires-clause-pass : goal.give_part-requires-clause-pass
@@ -47,7 +47,7 @@ give_part-requires-clause-pass g c =
     let r = c.requires in
     let takes = c.take_beside.ensures.takes r.session r.own r.within in
     let held = made c.args.self.now c.take_beside.new.pass.seat c.make_on-reply.new.pass.seat c.take_beside.new.pass.hands c.make_on-reply.new.pass.hands c.args.on c.args.table c.args.block c.event-event.result c.make_on-reply.result c.event-event.ensures c.make_on-reply.ensures
-    r.session r.own takes.within r.mine in
+    0 r.session r.own takes.within r.mine in
     (r.session, own_behind r.own (event_on c.args.on c.args.table c.args.block) c.make_on-reply.result, held.within)
 
 pub give_part-requires-clause-held : goal.give_part-requires-clause-held
@@ -57,7 +57,7 @@ give_part-requires-clause-held g c =
     let t = c.take_beside.new.pass in
     let u = c.make_on-reply.new.pass in
     let takes = c.take_beside.ensures.takes r.session r.own r.within in
-    let held = made st t.seat u.seat t.hands u.hands c.args.on c.args.table c.args.block c.event-event.result c.make_on-reply.result c.event-event.ensures c.make_on-reply.ensures r.session r.own takes.within r.mine in
+    let held = made st t.seat u.seat t.hands u.hands c.args.on c.args.table c.args.block c.event-event.result c.make_on-reply.result c.event-event.ensures c.make_on-reply.ensures 0 r.session r.own takes.within r.mine in
     let number = subst (λ (sh : Shape). slice_get (names sh) c.body-body.result ≡ Some (BodyOf c.args.table c.args.block))
     (c.shape.ensures ∙ c.self.invariant.shape ∙ ap shape_in c.self.view_is) c.body-body.ensures in
     body_held (shape_in st) r.common c.args.table c.args.block c.body-body.result (event_on c.args.on c.args.table c.args.block) number r.on (first_of t.hands) (first_of u.hands)
@@ -73,7 +73,7 @@ returns g c session own common within mine on =
     let told = c.make_on-reply.result in
     let takes = c.take_beside.ensures.takes session own within in
     let e : CoreEvent = event_on c.args.on c.args.table c.args.block in
-    let held = made st t.seat u.seat t.hands u.hands c.args.on c.args.table c.args.block c.event-event.result told c.event-event.ensures c.make_on-reply.ensures session own takes.within mine in
+    let held = made st t.seat u.seat t.hands u.hands c.args.on c.args.table c.args.block c.event-event.result told c.event-event.ensures c.make_on-reply.ensures 0 session own takes.within mine in
     let gives = c.give_part.ensures.gives session (own_behind own e told) held.within in
     let number = subst (λ (sh : Shape). slice_get (names sh) c.body-body.result ≡ Some (BodyOf c.args.table c.args.block))
     (c.shape.ensures ∙ c.self.invariant.shape ∙ ap shape_in c.self.view_is) c.body-body.ensures in

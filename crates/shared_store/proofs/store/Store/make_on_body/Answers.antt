@@ -18,7 +18,7 @@ pub give_alone-requires-clause-pass : goal.give_alone-requires-clause-pass
 give_alone-requires-clause-pass g c =
     let r = c.requires.may in
     let takes = c.take_body-body.ensures.takes c.args.event c.requires.alone r.session r.own r.at' in
-    let held = c.make_on-reply.ensures r.session r.own takes.within r.mine in
+    let held = c.make_on-reply.ensures 0 r.session r.own takes.within r.mine in
     (r.session, own_behind r.own c.args.event c.make_on-reply.result, held.within)
 
 pub give_alone-requires-clause-alone : goal.give_alone-requires-clause-alone
@@ -27,7 +27,7 @@ give_alone-requires-clause-alone g c =
     let u = c.make_on-reply.new.pass in
     let r = c.requires.may in
     let takes = c.take_body-body.ensures.takes c.args.event c.requires.alone r.session r.own r.at' in
-    let held = c.make_on-reply.ensures r.session r.own takes.within r.mine in
+    let held = c.make_on-reply.ensures 0 r.session r.own takes.within r.mine in
     alone_still (first_of t.hands) (first_of u.hands) c.take_body-body.result c.take_body-body.ensures.alone held.room
 
 pub returns : goal.returns
@@ -38,6 +38,6 @@ returns g c session own at' mine =
     let w = c.give_alone.new.pass in
     let told = c.make_on-reply.result in
     let takes = c.take_body-body.ensures.takes c.args.event c.requires.alone session own at' in
-    let held = c.make_on-reply.ensures session own takes.within mine in
+    let held = c.make_on-reply.ensures 0 session own takes.within mine in
     let gives = c.give_alone.ensures session (own_behind own c.args.event told) held.within in
     made_whole c.args.self.now session s.seat t.seat u.seat w.seat t.hands u.hands w.hands own c.args.event told takes held gives

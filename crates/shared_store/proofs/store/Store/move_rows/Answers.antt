@@ -25,7 +25,7 @@ make-requires g c =
     let s = c.args.session.now in
     let e : CoreEvent = event.Move c.args.table c.args.moves in
     subst (MayMake st s.pass.seat s.pass.hands) (sym c.new-event.ensures)
-    (may_make st s e c.requires.session c.requires.room (inr refl) tt (λ parts holds stamp. (c.requires.table, c.requires.fits.places, c.requires.fits.apart, stamp)))
+    (may_make st s e c.requires.session c.requires.room (inr refl) refl tt (λ parts holds stamp. (c.requires.table, c.requires.fits.places, c.requires.fits.apart, stamp)))
 
 pub unreachable-requires : goal.unreachable-requires
 unreachable-requires g c =

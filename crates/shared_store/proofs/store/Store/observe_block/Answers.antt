@@ -27,6 +27,7 @@ make_keeping-requires g c =
       on = observe_on_block (shape_in st) c.args.table c.args.block;
       keeps = r.keeping.keeps;
       mine = inr refl;
+      thawless = refl;
       stands = tt;
       fits = λ parts holds stamp. r.block;
       few = omega (arith, room);

@@ -31,6 +31,7 @@ make_keeping-requires g c =
       on = prune_on_block (shape_in st) c.args.table c.args.block c.args.oldest;
       keeps = r.keeping.keeps;
       mine = inr refl;
+      thawless = refl;
       stands = r.oldest;
       fits = λ parts holds stamp. r.block;
       few = omega (arith, room);

@@ -7,7 +7,11 @@ use Rattle.workload_spec.specs.declared.reply.Said.{Said}
 use Rattle.shared_store.specs.Scanning.{Scans}
 use Rattle.shared_store.specs.Store.{Answers, shape_in}
 use Rattle.shared_store.proofs.Calls.{own_open}
-use Rattle.shared_store.proofs.Scanned.{ScansBy, scan_ends, scan_unread, scans_count, steps_begin, steps_break, steps_end, steps_go_on, unscanned}
+use Rattle.std.proofs.lemmas.List.Sums.{count_by-le-length}
+use Rattle.store_laws.specs.Stretches.{is_event}
+use Rattle.shared_store.specs.Scanning.{ReadsOnce}
+use Rattle.shared_store.proofs.Claims.{free_on, keeps_none}
+use Rattle.shared_store.proofs.Scanned.{ScansBy, read_once, scan_ends, scan_unread, scans_count, steps_begin, steps_break, steps_end, steps_go_on, unscanned}
 use Rattle.shared_store.proofs.Stays.{scan_finds, scan_unread_finds}
 use Rattle.shared_store.proofs.store.Store.scan.Goals as goal
 
@@ -27,11 +31,12 @@ read_into-requires-clause-room g c =
     let s = (c.loop-block.invariant o.0 o.1).scans in
     let many = scans_count c.args.self.now c.args.session.now c.loop-block.session o.0 c.args.table c.loop-block.block c.loop-block.by_place.entries s in
     let count = s.went.count in
+    let events = count_by-le-length is_event s.made in
     let room = c.requires.room in
     let few = c.blocks-block-end.ensures.few in
     let below = c.loop-block-test.true in
     let end' = c.loop-block.auto.block-end in
-    omega (arith, many, count, room, few, below, end')
+    omega (arith, many, count, events, room, few, below, end')
 
 pub read_into-requires-clause-busy : goal.read_into-requires-clause-busy
 read_into-requires-clause-busy g c =
@@ -62,7 +67,7 @@ returns-in_err-read_into-clause-answers g c =
     let end' = c.loop-block.auto.block-end in
     subst (λ (line : Said). Answers st c.args.session.now c.read_into.new.session (Scan c.args.table) line) (sym (unscanned c.from_residual.result c.from_residual.ensures.0))
     (scan_unread st o.0 c.args.table c.args.session.now c.requires.session o.1 c.loop-block.session c.read_into.new.session c.loop-block.block c.loop-block.by_place.entries r.told
-    (omega (arith, blocks, below, end')) s r.reads)
+    (omega (arith, blocks, below, end')) s r.reads (keeps_none (free_on s.went.reads c.requires.free) r.free))
 
 pub returns-in_err-read_into-clause-steps : goal.returns-in_err-read_into-clause-steps
 returns-in_err-read_into-clause-steps g c =
@@ -73,8 +78,10 @@ returns-in_err-read_into-clause-steps g c =
     let blocks : c.blocks-block-end.result ≡ blocks_of (shape_in st) c.args.table = c.blocks-block-end.ensures.blocks ∙ ap (λ (sh : Shape). blocks_of sh c.args.table) (c.shape-shape.ensures ∙ c.self.invariant.shape ∙ ap shape_in c.self.view_is) in
     let below = c.loop-block-test.true in
     let end' = c.loop-block.auto.block-end in
-    steps_break st o.0 c.args.table c.args.session.now c.loop-block.session c.read_into.new.session c.loop-block.block c.loop-block.by_place.entries r.told
-    c.args.steps.now c.loop-block.steps c.read_into.new.steps s r.reads (omega (arith, blocks, below, end')) r.few
+    subst (λ (line : Said). ReadsOnce st c.args.session.now c.read_into.new.session c.args.table line c.args.steps.now c.read_into.new.steps) (sym (unscanned c.from_residual.result c.from_residual.ensures.0))
+    (steps_break st o.0 c.args.table c.args.session.now c.loop-block.session c.read_into.new.session c.loop-block.block c.loop-block.by_place.entries r.told
+    c.args.steps.now c.loop-block.steps c.read_into.new.steps s r.reads (keeps_none (free_on s.scans.went.reads c.requires.free) r.free) (omega (arith, blocks, below, end')) r.few
+    c.requires.session o.1 r.unlooked)
 
 pub loop-block-preserved : goal.loop-block-preserved
 loop-block-preserved g c own is =
@@ -85,7 +92,8 @@ loop-block-preserved g c own is =
     let below = c.loop-block-test.true in
     let end' = c.loop-block.auto.block-end in
     steps_go_on st own c.args.table c.args.session.now c.loop-block.session c.read_into.new.session c.loop-block.block c.loop-block.by_place.entries r.told
-    c.args.steps.now c.loop-block.steps c.read_into.new.steps s r.reads (omega (arith, blocks, below, end')) r.few c.read_into.new.by_place.entries r.granted r.laid
+    c.args.steps.now c.loop-block.steps c.read_into.new.steps s r.reads (keeps_none (free_on s.scans.went.reads c.requires.free) r.free) (omega (arith, blocks, below, end')) r.few
+    c.read_into.new.by_place.entries r.granted r.laid
 
 pub returns-clause-session : goal.returns-clause-session
 returns-clause-session g c =
@@ -111,9 +119,20 @@ returns-clause-answers g c =
 
 pub returns-clause-steps : goal.returns-clause-steps
 returns-clause-steps g c =
+    let st = c.args.self.now in
     let o = own_open c.args.session.now c.requires.busy in
-    steps_end c.args.self.now o.0 c.args.table c.args.session.now c.loop-block.session c.loop-block.block c.loop-block.by_place.entries c.args.steps.now c.loop-block.steps
-    (c.loop-block.invariant o.0 o.1)
+    let s = c.loop-block.invariant o.0 o.1 in
+    let blocks : c.blocks-block-end.result ≡ blocks_of (shape_in st) c.args.table = c.blocks-block-end.ensures.blocks ∙ ap (λ (sh : Shape). blocks_of sh c.args.table) (c.shape-shape.ensures ∙ c.self.invariant.shape ∙ ap shape_in c.self.view_is) in
+    let done = c.loop-block-test.false in
+    let end' = c.loop-block.auto.block-end in
+    let all : c.loop-block.block ≡ blocks_of (shape_in st) c.args.table = omega (arith, blocks, done, end') in
+    steps_end st o.0 c.args.table c.args.session.now c.loop-block.session c.loop-block.by_place.entries c.args.steps.now c.loop-block.steps c.rows_in_order.result c.requires.session o.1
+    (subst (λ k. ScansBy st c.args.session.now c.loop-block.session o.0 c.args.table k c.loop-block.by_place.entries c.args.steps.now c.loop-block.steps) all s) c.rows_in_order.ensures
+
+pub read_into-requires-clause-free : goal.read_into-requires-clause-free
+read_into-requires-clause-free g c =
+    let o = own_open c.args.session.now c.requires.busy in
+    free_on (c.loop-block.invariant o.0 o.1).scans.went.reads c.requires.free
 
 pub returns-in_err-read_into-clause-finds : goal.returns-in_err-read_into-clause-finds
 returns-in_err-read_into-clause-finds g c =
@@ -129,11 +148,14 @@ returns-in_err-read_into-clause-few g c =
     let s = (c.loop-block.invariant o.0 o.1).scans in
     let many = scans_count c.args.self.now c.args.session.now c.loop-block.session o.0 c.args.table c.loop-block.block c.loop-block.by_place.entries s in
     let count = s.went.count in
-    let one = (c.read_into.ensures o.0 (s.went.opened ∙ o.1)).reads.count in
+    let events = count_by-le-length is_event s.made in
+    let r = (c.read_into.ensures o.0 (s.went.opened ∙ o.1)).reads in
+    let one = r.count in
+    let once = read_once c.loop-block.session.session o.0 c.args.table c.loop-block.block _ r.made r.is_read in
     let few = c.blocks-block-end.ensures.few in
     let below = c.loop-block-test.true in
     let end' = c.loop-block.auto.block-end in
-    omega (arith, many, count, one, few, below, end')
+    omega (arith, many, count, events, one, once, few, below, end')
 
 pub returns-clause-finds : goal.returns-clause-finds
 returns-clause-finds g c =
@@ -153,6 +175,7 @@ returns-clause-few g c =
     let s = (c.loop-block.invariant o.0 o.1).scans in
     let many = scans_count c.args.self.now c.args.session.now c.loop-block.session o.0 c.args.table c.loop-block.block c.loop-block.by_place.entries s in
     let count = s.went.count in
+    let events = count_by-le-length is_event s.made in
     let few = c.blocks-block-end.ensures.few in
     let end' = c.loop-block.auto.block-end in
-    omega (arith, many, count, few, end')
+    omega (arith, many, count, events, few, end')

@@ -26,7 +26,7 @@ make-requires g c =
     let s = c.args.session.now in
     let e : CoreEvent = event.Seal c.args.table c.args.block in
     subst (MayMake st s.pass.seat s.pass.hands) (sym c.new-event.ensures)
-    (may_make st s e c.requires.session c.requires.room (inr refl) tt (λ parts holds stamp. block_there (shape_in st) c.args.table c.args.block c.requires.block))
+    (may_make st s e c.requires.session c.requires.room (inr refl) refl tt (λ parts holds stamp. block_there (shape_in st) c.args.table c.args.block c.requires.block))
 
 pub unreachable-requires : goal.unreachable-requires
 unreachable-requires g c =
@@ -52,7 +52,7 @@ returns-in-Sealed-clause-session g c =
     let m = subst (λ (e : CoreEvent). Makes st s.session s.pass.seat c.make.new.pass.seat c.make.new.pass.hands (own_of s) e c.make.result) c.new-event.ensures
     (c.make.ensures s.session (own_of s) c.requires.session.stands (subst (IsOfSession s.session) (sym c.new-event.ensures) mine)) in
     let new : Session = record { pass = c.make.new.pass; session = s.session; snapshot = s.snapshot; writes = s.writes } in
-    (one_event st s new asked e c.make.result line c.requires.session m refl refl refl (λ made. refl)
+    (one_event st s new asked e c.make.result line c.requires.session refl m refl refl refl (λ made. refl)
     (subst (λ (r : CoreReply). TellsLine (own_of s) asked r line) (sym c.in-Sealed.is) refl)).0
 
 pub returns-in-Sealed-clause-answers : goal.returns-in-Sealed-clause-answers
@@ -66,7 +66,7 @@ returns-in-Sealed-clause-answers g c =
     let m = subst (λ (e : CoreEvent). Makes st s.session s.pass.seat c.make.new.pass.seat c.make.new.pass.hands (own_of s) e c.make.result) c.new-event.ensures
     (c.make.ensures s.session (own_of s) c.requires.session.stands (subst (IsOfSession s.session) (sym c.new-event.ensures) mine)) in
     let new : Session = record { pass = c.make.new.pass; session = s.session; snapshot = s.snapshot; writes = s.writes } in
-    (one_event st s new asked e c.make.result line c.requires.session m refl refl refl (λ made. refl)
+    (one_event st s new asked e c.make.result line c.requires.session refl m refl refl refl (λ made. refl)
     (subst (λ (r : CoreReply). TellsLine (own_of s) asked r line) (sym c.in-Sealed.is) refl)).1
 
 pub returns-in-NotSealed-clause-session : goal.returns-in-NotSealed-clause-session
@@ -80,7 +80,7 @@ returns-in-NotSealed-clause-session g c =
     let m = subst (λ (e : CoreEvent). Makes st s.session s.pass.seat c.make.new.pass.seat c.make.new.pass.hands (own_of s) e c.make.result) c.new-event.ensures
     (c.make.ensures s.session (own_of s) c.requires.session.stands (subst (IsOfSession s.session) (sym c.new-event.ensures) mine)) in
     let new : Session = record { pass = c.make.new.pass; session = s.session; snapshot = s.snapshot; writes = s.writes } in
-    (one_event st s new asked e c.make.result line c.requires.session m refl refl refl (λ made. refl)
+    (one_event st s new asked e c.make.result line c.requires.session refl m refl refl refl (λ made. refl)
     (subst (λ (r : CoreReply). TellsLine (own_of s) asked r line) (sym c.in-NotSealed.is) refl)).0
 
 pub returns-in-NotSealed-clause-answers : goal.returns-in-NotSealed-clause-answers
@@ -94,7 +94,7 @@ returns-in-NotSealed-clause-answers g c =
     let m = subst (λ (e : CoreEvent). Makes st s.session s.pass.seat c.make.new.pass.seat c.make.new.pass.hands (own_of s) e c.make.result) c.new-event.ensures
     (c.make.ensures s.session (own_of s) c.requires.session.stands (subst (IsOfSession s.session) (sym c.new-event.ensures) mine)) in
     let new : Session = record { pass = c.make.new.pass; session = s.session; snapshot = s.snapshot; writes = s.writes } in
-    (one_event st s new asked e c.make.result line c.requires.session m refl refl refl (λ made. refl)
+    (one_event st s new asked e c.make.result line c.requires.session refl m refl refl refl (λ made. refl)
     (subst (λ (r : CoreReply). TellsLine (own_of s) asked r line) (sym c.in-NotSealed.is) refl)).1
 
 pub returns-in-Sealed-clause-leaves : goal.returns-in-Sealed-clause-leaves

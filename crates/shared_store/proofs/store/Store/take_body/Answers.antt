@@ -46,3 +46,11 @@ returns-clause-alone g c =
     (c.shape.ensures ∙ c.self.invariant.shape ∙ ap shape_in c.self.view_is) c.body-body.ensures in
     alone_taken (first_of s.hands) (first_of t.hands) c.body-body.result hand.0 any.2.empty hand.1
     (taken_there st any.0 s.seat s.hands any.1 any.2.within t.hands (BodyOf c.args.table c.args.block) c.body-body.result hand.0 number hand.1)
+
+pub returns-clause-number : goal.returns-clause-number
+returns-clause-number g c =
+    subst (λ (sh : Shape). slice_get (names sh) c.body-body.result ≡ Some (BodyOf c.args.table c.args.block))
+    (c.shape.ensures ∙ c.self.invariant.shape ∙ ap shape_in c.self.view_is) c.body-body.ensures
+
+pub returns-clause-took : goal.returns-clause-took
+returns-clause-took g c = c.take.ensures.taken

@@ -1,0 +1,16 @@
+use Rattle.std.proofs.Common.{◌≡◌, ◌≤◌, ◌+◌, length, ap, arith}
+use Rattle.shared_store.specs.Reading.{rows_in}
+use Rattle.shared_store.specs.declared.reading.SeenBlock.{SeenBlock}
+use Rattle.block_spec.specs.Slots.{Row}
+use Rattle.std.proofs.Common.{List}
+use Rattle.shared_store.proofs.Counted.{rows_counted}
+use Rattle.shared_store.proofs.store.Store.rows_of_seen.Goals as goal
+
+pub returns-in-Lent-clause-steps : goal.returns-in-Lent-clause-steps
+returns-in-Lent-clause-steps g c =
+    let few = c.rows_of_columns-rows.ensures.steps in
+    let count = c.rows.ensures in
+    let whole = rows_counted c.columns-image.result.now c.columns-image.ensures.whole in
+    let same = ap (λ (rows : List Row). length rows) c.columns-image.ensures.rows in
+    let here = ap (λ (seen : SeenBlock). length (rows_in seen)) c.in-Lent.is in
+    omega (arith, few, count, whole, same, here)
