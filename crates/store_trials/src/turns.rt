@@ -276,6 +276,27 @@ fn freeze<R: Abort + Wait + Threads + Sync>(
     Ok(())
 }
 
+/// Lets the first block live through all cases, freezes it once more, and reads it frozen.
+fn live_and_read<R: Abort + Wait + Threads + Sync>(
+    rt: &R,
+    alloc: Global,
+    store: &Store,
+    session: &mut Session,
+    worker: &mut Session,
+) -> Result<(), Fail>
+    requires session { IsFreeSession store.now session.old }
+    requires worker { IsFreeSession store.now worker.old }
+    requires room { HasRoomFor (2 ^ 40) session.old }
+    requires room_to_work { HasRoomFor (2 ^ 45) worker.old }
+    requires block { HasBlock (shape_in store.now) 0 0 }
+    requires known { is_block_of (shape_in store.now).tables 0 0 ≡ true }
+    requires head { HasBlock (shape_in store.now) 0 1 }
+{
+    live(rt, alloc, store, session, worker)?;
+    freeze(rt, alloc, store, session, worker)?;
+    read_frozen(rt, alloc, store, session, worker)
+}
+
 /// The last image of the block is then lent, and exported to a sink that fails in its bytes.
 #[test]
 fn a_block_lives_turn_by_turn(rt: HostRuntime) -> Result<(), Fail> {
@@ -286,7 +307,5 @@ fn a_block_lives_turn_by_turn(rt: HostRuntime) -> Result<(), Fail> {
         ..
     } = Store::build(alloc, tables(alloc)?, 2, 0)?;
     let (front, back) = sessions.split_at_mut(1);
-    live(&rt, alloc, &store, &mut front[0], &mut back[0])?;
-    freeze(&rt, alloc, &store, &mut front[0], &mut back[0])?;
-    read_frozen(&rt, alloc, &store, &mut front[0], &mut back[0])
+    live_and_read(&rt, alloc, &store, &mut front[0], &mut back[0])
 }

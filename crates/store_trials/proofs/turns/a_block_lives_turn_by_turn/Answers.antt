@@ -19,38 +19,30 @@ second_new store row back d is back_is =
     subst (IsNewSession store 2) (sym (ap (λ (xs : List Session). get_or xs 0 d) back_is ∙ get_or-drop 1 row 0 d))
     (is.each 1 (get_or row 1 d) (slice_get-get_or row 1 d (omega (arith, many))))
 
-pub live-requires-clause-session : goal.live-requires-clause-session
-live-requires-clause-session g c κs =
+pub live_and_read-requires-clause-session : goal.live_and_read-requires-clause-session
+live_and_read-requires-clause-session g c κs =
     let row : c.in_ok-store.field-0.sessions.items ≡ c.deref_mut.result.now = cc in
-    (first_new c.in_ok-store.field-0.store c.deref_mut.result.now c.split_at_mut-front.result.0.now c.index-front-0.result
-    (subst (IsNewRow c.in_ok-store.field-0.store 2) row c.in_ok-store.ensures.sessions) c.split_at_mut-front.ensures.front).session
+    let new = first_new c.in_ok-store.field-0.store c.deref_mut.result.now c.split_at_mut-front.result.0.now c.index-front-0.result
+    (subst (IsNewRow c.in_ok-store.field-0.store 2) row c.in_ok-store.ensures.sessions) c.split_at_mut-front.ensures.front in
+    record { stands = new.session; free = new.free }
 
-pub live-requires-clause-worker : goal.live-requires-clause-worker
-live-requires-clause-worker g c κs =
+pub live_and_read-requires-clause-worker : goal.live_and_read-requires-clause-worker
+live_and_read-requires-clause-worker g c κs =
     let row : c.in_ok-store.field-0.sessions.items ≡ c.deref_mut.result.now = cc in
-    (second_new c.in_ok-store.field-0.store c.deref_mut.result.now c.split_at_mut-front.result.1.now c.index-back-0.result
-    (subst (IsNewRow c.in_ok-store.field-0.store 2) row c.in_ok-store.ensures.sessions) c.split_at_mut-front.ensures.back).session
+    let new = second_new c.in_ok-store.field-0.store c.deref_mut.result.now c.split_at_mut-front.result.1.now c.index-back-0.result
+    (subst (IsNewRow c.in_ok-store.field-0.store 2) row c.in_ok-store.ensures.sessions) c.split_at_mut-front.ensures.back in
+    record { stands = new.session; free = new.free }
 
-pub live-requires-clause-room : goal.live-requires-clause-room
-live-requires-clause-room g c κs =
+pub live_and_read-requires-clause-room : goal.live_and_read-requires-clause-room
+live_and_read-requires-clause-room g c κs =
     let row : c.in_ok-store.field-0.sessions.items ≡ c.deref_mut.result.now = cc in
     let made = (first_new c.in_ok-store.field-0.store c.deref_mut.result.now c.split_at_mut-front.result.0.now c.index-front-0.result
     (subst (IsNewRow c.in_ok-store.field-0.store 2) row c.in_ok-store.ensures.sessions) c.split_at_mut-front.ensures.front).made in
     omega (arith, made)
 
-pub live-requires-clause-room_to_work : goal.live-requires-clause-room_to_work
-live-requires-clause-room_to_work g c κs =
+pub live_and_read-requires-clause-room_to_work : goal.live_and_read-requires-clause-room_to_work
+live_and_read-requires-clause-room_to_work g c κs =
     let row : c.in_ok-store.field-0.sessions.items ≡ c.deref_mut.result.now = cc in
     let made = (second_new c.in_ok-store.field-0.store c.deref_mut.result.now c.split_at_mut-front.result.1.now c.index-back-0.result
     (subst (IsNewRow c.in_ok-store.field-0.store 2) row c.in_ok-store.ensures.sessions) c.split_at_mut-front.ensures.back).made in
     omega (arith, made)
-
-pub read_frozen-requires-clause-room : goal.read_frozen-requires-clause-room
-read_frozen-requires-clause-room g c =
-    let row : c.in_ok-store.field-0.sessions.items ≡ c.deref_mut.result.now = cc in
-    let made = (first_new c.in_ok-store.field-0.store c.deref_mut.result.now c.split_at_mut-front.result.0.now c.index-front-0.result
-    (subst (IsNewRow c.in_ok-store.field-0.store 2) row c.in_ok-store.ensures.sessions) c.split_at_mut-front.ensures.front).made in
-    let few = c.in_ok-live.ensures.few in
-    let front = c.split_at_mut-front.ensures.front_len in
-    let same : slice_index_or (slice_set c.split_at_mut-front.result.0.now 0 c.live.new.session) 0 c.index-front-0-2.result ≡ c.live.new.session = search rules in
-    subst (HasRoomFor (2 ^ 13)) (sym same) (let all : events_made c.live.new.session + 2 ^ 13 < 2 ^ 56 = omega (arith, made, few) in all)
