@@ -1,78 +1,21 @@
--- Sessions that make few events or none, and parts that are there to be taken and given.
-use Rattle.std.proofs.Common.{◌≡◌, ℕ, ◌+◌, ◌<◌, ◌≤◌, false, List, [], ◌∷◌, ◌++◌, length, Option, None, Some, refl, set, ap, ◌∙◌, arith, length-append}
-use mathlib.Core.Logic.{inl, inr}
+-- Sessions that were just built, and parts that are there to be taken and given.
+use Rattle.std.proofs.Common.{◌≡◌, ℕ, ◌+◌, ◌<◌, List, [], ◌∷◌, ◌++◌, length, Option, Some, refl, set, ap, ◌∙◌, arith}
 use Rattle.std.specs.Prelude.{slice_get}
 use Rattle.std.proofs.lemmas.List.{length-map}
-use Rattle.block_spec.specs.Slots.{Row}
-use Rattle.event_spec.specs.declared.event.Event.TheVariants as event
 use Rattle.event_spec.specs.declared.own.OwnTransaction.{OwnTransaction}
-use Rattle.event_spec.specs.Effects.{CoreEvent}
-use Rattle.event_spec.specs.Parts.{CorePart, Name, Parts, Shape, names}
+use Rattle.event_spec.specs.Parts.{CorePart, Name, Parts, names}
 use Rattle.event_spec.specs.Replay.{opening, opening_part}
-use Rattle.isolation_spec.specs.Contents.{key_of}
-use Rattle.run_spec.specs.Asked.{by_own, events_of}
-use Rattle.run_spec.specs.Calls.{Call, IsCallBy}
-use Rattle.run_spec.specs.Handed.{own_in}
-use Rattle.run_spec.specs.Occurrences.{Occurrence, events_in}
-use Rattle.run_spec.specs.Opened.{own_after, own_key}
-use Rattle.run_spec.specs.Told.{refusal_of}
-use Rattle.workload_spec.specs.declared.command.Command.{Command}
-use Rattle.workload_spec.specs.declared.command.Command.TheVariants as command
-use Rattle.workload_spec.specs.declared.reply.Said.{Said}
 use Rattle.core_parts.proofs.Placing.{number_less}
 use Rattle.hall_rule.proofs.Lists.{get_set_here}
 use Rattle.hall_rule.specs.EventLog.{replay}
 use Rattle.hall_rule.specs.Hands.{Holds}
 use Rattle.hall_steps.specs.Hall.{first_of}
 use Rattle.store_laws.specs.Logs.{store_meaning}
-use Rattle.shared_store.specs.Store.{Answers, HandsView, IsStore, IsWithin, SeatView, StoreView, events_made, seen, shape_in}
+use Rattle.shared_store.specs.Store.{HandsView, IsStore, IsWithin, SeatView, StoreView, shape_in}
 use Rattle.shared_store.specs.Building.{IsNewRow, IsNewSession}
 use Rattle.shared_store.specs.declared.session.Session.{Session}
 use Rattle.shared_store.proofs.Hands.{agrees_with}
 use Rattle.shared_store.proofs.Made.{one_hand}
-use Rattle.store_laws.specs.Stretches.{is_event}
-use Rattle.std.proofs.lemmas.List.Sums.{count_by-le-length}
-
--- ---- few events
-
--- A call makes so many events at most where its command has no more.
-call_few : (n : ℕ) (shape : Shape) (session : ℕ) (own : Option OwnTransaction) (refusal : Option Said) (call : Call)
-    → ((made : List Occurrence) → length (events_of shape own session call.command made) ≤ n)
-    → IsCallBy shape false session own refusal call → length call.made ≤ n
-call_few n shape session own (Some line) call few (none, told) = let e : length call.made ≡ 0 = ap (λ (made : List Occurrence). length made) none in omega (arith, e)
-call_few n shape session own None call few (inl whole) =
-    let all = few call.made in
-    let same : length (events_in call.made) ≡ length (events_of shape own session call.command call.made) = ap (λ (events : List CoreEvent). length events) whole.events in
-    let each : length (events_in call.made) ≡ length call.made = length-map call.made (λ (occurrence : Occurrence). occurrence.event) in
-    omega (arith, all, same, each)
-call_few n shape session own None call few (inr part) =
-    let all = few call.made in
-    let same : length (events_of shape own session call.command call.made) ≡ length (events_in call.made ++ part.missed) = ap (λ (events : List CoreEvent). length events) part.events in
-    let parted = length-append (events_in call.made) part.missed in
-    let each : length (events_in call.made) ≡ length call.made = length-map call.made (λ (occurrence : Occurrence). occurrence.event) in
-    omega (arith, all, same, parted, each)
-
--- a call makes no more events than its command has
-few_made : (n : ℕ) (store : StoreView) (old new : Session) (command : Command) (told : Said)
-    → ((own : Option OwnTransaction) (made : List Occurrence) → length (events_of (shape_in store) own old.session command made) ≤ n)
-    → Answers store old new command told → events_made new ≤ events_made old + n
-few_made n store old new command told few answers =
-    let own = own_after (own_in (shape_in store) old.session (seen old)) in
-    let call : Call = record { command = command; made = answers.made; told = Some told } in
-    let made : length answers.made ≤ n = call_few n (shape_in store) old.session own (refusal_of command own) call (few own) answers.called.is_call in
-    let count = answers.count in
-    let events = count_by-le-length is_event answers.made in
-    omega (arith, made, count, events)
-
--- What a transaction makes by one event is one at most, whether one is open or not.
-one_event : (o : Option OwnTransaction) (event : OwnTransaction → CoreEvent) → length (by_own o (λ t. event t ∷ [])) ≤ 1
-one_event None event = omega arith
-one_event (Some t) event = omega arith
-
--- an insert makes one event at most
-pub inserted_once : (store : StoreView) (old new : Session) (table : ℕ) (row : Row) (told : Said) → Answers store old new (command.Insert table row) told → events_made new ≤ events_made old + 1
-inserted_once store old new table row told answers = few_made 1 store old new (command.Insert table row) told
-    (λ own made. one_event own (λ t. event.Insert (own_key table (key_of row) t) table row)) answers
 
 -- ---- parts
 

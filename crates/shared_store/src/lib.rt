@@ -28,6 +28,3 @@ pub use lending::{Lend, LendFault};
 pub use reading::SeenBlock;
 pub use session::Session;
 pub use store::Store;
-
-#[cfg(test)]
-mod tests;

@@ -2,7 +2,7 @@
 ghost use Rattle.std.specs.Prelude.{◌≡◌, ◌≤◌, ◌^◌, IfOk, OnOk, length, true};
 ghost use Rattle.engine_core.specs.Core.{MayOpen};
 ghost use Rattle.event_spec.specs.Lawful.{HasBlock};
-ghost use Rattle.shared_store.specs.Store.{HasRoomFor, MakesAtMost, shape_in};
+ghost use Rattle.shared_store.specs.Store.{HasRoomFor, IsSession, MakesAtMost, shape_in};
 ghost use Rattle.store_rounds.specs.Sessions.{IsFreeSession};
 ghost use Rattle.workload_spec.specs.Valid.{fits_table, is_block_of};
 
@@ -115,11 +115,11 @@ const CASES: [Case; 9] = [
 
 /// A table of keys alone, of two blocks of eight rows.
 fn tables(alloc: Global) -> Result<Vec<TableDecl>, Fail>
-    ensures may_open { IfOk result (λ tables. MayOpen tables.items 2) }
+    ensures may_open { IfOk result (λ tables. MayOpen tables.items 3) }
     ensures block { IfOk result (λ tables.
-        HasBlock (record { tables = tables.items; passes = 2 }) 0 0) }
+        HasBlock (record { tables = tables.items; passes = 3 }) 0 0) }
     ensures head { IfOk result (λ tables.
-        HasBlock (record { tables = tables.items; passes = 2 }) 0 1) }
+        HasBlock (record { tables = tables.items; passes = 3 }) 0 1) }
     ensures known { IfOk result (λ tables. is_block_of tables.items 0 0 ≡ true) }
 {
     let key = Column {
@@ -283,18 +283,21 @@ fn live_and_read<R: Abort + Wait + Threads + Sync>(
     store: &Store,
     session: &mut Session,
     worker: &mut Session,
+    other: &mut Session,
 ) -> Result<(), Fail>
     requires session { IsFreeSession store.now session.old }
     requires worker { IsFreeSession store.now worker.old }
+    requires other { IsSession store.now other.old }
     requires room { HasRoomFor (2 ^ 40) session.old }
     requires room_to_work { HasRoomFor (2 ^ 45) worker.old }
+    requires room_to_get { HasRoomFor 3 other.old }
     requires block { HasBlock (shape_in store.now) 0 0 }
     requires known { is_block_of (shape_in store.now).tables 0 0 ≡ true }
     requires head { HasBlock (shape_in store.now) 0 1 }
 {
     live(rt, alloc, store, session, worker)?;
     freeze(rt, alloc, store, session, worker)?;
-    read_frozen(rt, alloc, store, session, worker)
+    read_frozen(rt, alloc, store, session, worker, other)
 }
 
 /// The last image of the block is then lent, and exported to a sink that fails in its bytes.
@@ -305,7 +308,8 @@ fn a_block_lives_turn_by_turn(rt: HostRuntime) -> Result<(), Fail> {
         store,
         mut sessions,
         ..
-    } = Store::build(alloc, tables(alloc)?, 2, 0)?;
-    let (front, back) = sessions.split_at_mut(1);
-    live_and_read(&rt, alloc, &store, &mut front[0], &mut back[0])
+    } = Store::build(alloc, tables(alloc)?, 3, 0)?;
+    let (one, others) = sessions.split_at_mut(1);
+    let (two, three) = others.split_at_mut(1);
+    live_and_read(&rt, alloc, &store, &mut one[0], &mut two[0], &mut three[0])
 }
