@@ -34,13 +34,16 @@ is_low TheDesk = false
 
 -- Whatever is held, the event touches the body of this block, and beside it those heads and shards
 -- that pass the test.
-pub record IsOnBlock (shape : Shape) (common : Name → Bool) (table block : ℕ) (event : CoreEvent) : Type 0 where
+pub record IsOnBlock
+    (shape : Shape) (common : Name → Bool) (table block : ℕ) (event : CoreEvent)
+    : Type 0 where
   pub touches : (held : Name → Option CorePart) (name : Name)
       → touched shape held event name ≡ (common name || same_name (BodyOf table block) name)
   pub low : (name : Name) → common name ≡ true → is_low name ≡ true
 
 -- The parts that pass the test are in the hand, and no others.
-pub record Keeps (shape : Shape) (common : Name → Bool) (hand : List (Option CorePart)) : Type 0 where
+pub record Keeps (shape : Shape) (common : Name → Bool) (hand : List (Option CorePart))
+    : Type 0 where
   pub all : (k : ℕ) (name : Name) → slice_get (names shape) k ≡ Some name → common name ≡ true
       → Holds hand k
   pub only : (k : ℕ) → Holds hand k → passes_test common (slice_get (names shape) k) ≡ true
@@ -88,7 +91,8 @@ rested s = record {
 
 -- A session of this store, whose pass keeps parts from the block before this one on: none at the
 -- first block.
-pub record IsKeeping (store : StoreView) (common : Name → Bool) (block : ℕ) (s : Session) : Type 0 where
+pub record IsKeeping (store : StoreView) (common : Name → Bool) (block : ℕ) (s : Session)
+    : Type 0 where
   pub within : IsWithin store s.session s.pass.seat s.pass.hands (own_of s)
   pub keeps : (block ≡ 0 → ⊥) → Keeps (shape_in store) common (first_of s.pass.hands)
 

@@ -1,5 +1,7 @@
--- Lends: the image of a block, read in place for as long as the session's claim on the block stands.
-use Rattle.std.specs.Prelude.{◌≡◌, ℕ, ◌+◌, ◌*◌, ◌^◌, Bool, true, false, List, [], ◌∷◌, ◌++◌, Option, None, Some}
+-- Lends: the image of a block, read in place for as long as the session's claim on the block
+-- stands.
+use Rattle.std.specs.Prelude.{◌≡◌, ℕ, ◌+◌, ◌*◌, ◌^◌, Bool, true, false, List, [], ◌∷◌, ◌++◌, Option}
+use Rattle.std.specs.Prelude.{None, Some}
 use Rattle.std.specs.Prelude.{Result, Ok, Err, slice_get}
 use Rattle.block_spec.specs.Bodies.{is_imaged, rows_of}
 use Rattle.block_spec.specs.declared.phase.Phase.TheVariants.{Imaged}
@@ -45,16 +47,16 @@ module _ (shape : Shape) (view : View CoreEvent) (own : Option OwnTransaction) w
   abbrev pub ImagedIs : ℕ → ℕ → Bool → Type 0
   ImagedIs table block answer = is_imaged (body_at shape parts_of table block).phase ≡ answer
 
-  -- There a block is imaged with this stamp, and has these rows. Where a transaction is open, it sees
-  -- just these rows in the block.
+  -- There a block is imaged with this stamp, and has these rows. Where a transaction is open, it
+  -- sees just these rows in the block.
   pub record HasImage (table block stamp : ℕ) (lent : List Row) : Type 0 where
     pub imaged : (body_at shape parts_of table block).phase ≡ Imaged stamp
     pub rows : rows_of (body_at shape parts_of table block) ≡ lent
     pub sees : (opened : OwnTransaction) → own ≡ Some opened
         → rows_read shape parts_of opened table block ≡ lent
 
-  -- The pass has lent a block that is imaged with a stamp: it has the claim on the block, whose word
-  -- was frozen with that stamp, and the rows of the lend are the block's.
+  -- The pass has lent a block that is imaged with a stamp: it has the claim on the block, whose
+  -- word was frozen with that stamp, and the rows of the lend are the block's.
   pub record HasLent (lend : LendView) (table block stamp : ℕ) : Type 0 where
     pub has : HasBlock shape table block
     pub part : slice_get (names shape) lend.part ≡ Some (BodyOf table block)
@@ -62,8 +64,8 @@ module _ (shape : Shape) (view : View CoreEvent) (own : Option OwnTransaction) w
     pub claimed : view.claimed ≡ 3 * 2 ^ 30 + stamp
     pub image : HasImage table block stamp lend.rows
 
-  -- What a lend answers: the block is lent where it is imaged there, but for want of memory; else it
-  -- is not, and the word that was found is not frozen.
+  -- What a lend answers: the block is lent where it is imaged there, but for want of memory; else
+  -- it is not, and the word that was found is not frozen.
   abbrev pub LendAnswers : ℕ → ℕ → Result LendView LendFault → Type 0
   LendAnswers table block (Ok lend) = (stamp : ℕ) × HasLent lend table block stamp
   LendAnswers table block (Err (fault.NotLent word)) =
@@ -73,7 +75,8 @@ module _ (shape : Shape) (view : View CoreEvent) (own : Option OwnTransaction) w
 -- ---- a pass that holds the block's body
 
 -- It has lent nothing, and may lend the block.
-pub record MayLendHeld (store : StoreView) (seat : SeatView) (hands : HandsView) (table block body : ℕ)
+pub record MayLendHeld
+    (store : StoreView) (seat : SeatView) (hands : HandsView) (table block body : ℕ)
     : Type 0 where
   pub session : ℕ
   pub own : Option OwnTransaction
@@ -136,9 +139,9 @@ pub record Lends
   pub looks : LooksAt store old new table block
   pub answers : LendAnswers (shape_in store) (view_of new) (own_of new) table block result
 
--- A lend was given back: the session has lent nothing any more. It made no event and took no part, and
--- has open what it had. In the log that it has seen by then the block is imaged with the same stamp,
--- and its rows are still those that were lent.
+-- A lend was given back: the session has lent nothing any more. It made no event and took no part,
+-- and has open what it had. In the log that it has seen by then the block is imaged with the same
+-- stamp, and its rows are still those that were lent.
 pub record EndsLend (store : StoreView) (old new : Session) (lend : LendView) : Type 0 where
   pub session : IsSession store new
   pub same : new.session ≡ old.session

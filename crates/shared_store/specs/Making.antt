@@ -73,7 +73,13 @@ pub record MayMakeHeld (store : StoreView) (seat : SeatView) (hands : HandsView)
     : Type 0 where
   pub session : ℕ
   pub own : Option OwnTransaction
-  pub within : IsWithinAt (thawed_by (thawed_part (shape_in store) event)) store session seat hands own
+  pub within : IsWithinAt
+      (thawed_by (thawed_part (shape_in store) event))
+      store
+      session
+      seat
+      hands
+      own
   pub mine : IsOfSession session event
   pub covers : Covers (touching (shape_in store) event) (first_of hands)
   pub stands : Stands (shape_in store) event (parts_seen (shape_in store) seat.me.0)
@@ -113,7 +119,8 @@ pub record MayThawHeld
   pub within : IsWithin store session seat hands own
   pub covers : Covers (touching (shape_in store) (event.Thaw table block)) (first_of hands)
   pub has : HasBlock (shape_in store) table block
-  pub imaged : is_imaged (body_at (shape_in store) (parts_seen (shape_in store) seat.me.0) table block).phase
+  pub imaged : is_imaged
+      (body_at (shape_in store) (parts_seen (shape_in store) seat.me.0) table block).phase
       ≡ true
   pub few : IsFew seat.me.0
 
@@ -159,8 +166,8 @@ abbrev pub FitsEach : Shape → CoreEvent → Type 0
 FitsEach shape event = (parts : Parts) → CoreHolds shape parts
     → (desk_at shape parts).newest + 1 < 2 ^ 63 → FitsIn shape event parts
 
--- A pass that holds no part may make the event, which thaws nothing: it stands by what its session has
--- open and by what lasts, and fits each core.
+-- A pass that holds no part may make the event, which thaws nothing: it stands by what its session
+-- has open and by what lasts, and fits each core.
 pub record MayMake (store : StoreView) (seat : SeatView) (hands : HandsView) (event : CoreEvent)
     : Type 0 where
   pub session : ℕ

@@ -36,8 +36,8 @@ abbrev pub StaysOpen : StoreView → Session → Session → Type 0
 StaysOpen store old new = (commits : History) (own : WriteSet)
     → IsOpen store old commits own → IsOpen store new commits own
 
--- Whatever is open stays so, where nothing is open nothing is, and of the commits that were seen none
--- is lost.
+-- Whatever is open stays so, where nothing is open nothing is, and of the commits that were seen
+-- none is lost.
 pub record LeavesOpen (store : StoreView) (old new : Session) : Type 0 where
   pub is_open : StaysOpen store old new
   pub rests : IsAtRest old → IsAtRest new
@@ -73,8 +73,8 @@ abbrev pub FindsRow
 FindsRow store old new table key found = (commits : History) (own : WriteSet)
     → IsOpen store old commits own → Finds store new commits own (place_at table key) found
 
--- The rows of a table were found, as the transaction sees them, in the order of their keys, and what
--- is open stays so.
+-- The rows of a table were found, as the transaction sees them, in the order of their keys, and
+-- what is open stays so.
 pub record FindsAll
     {E : Type 0} (store : StoreView) (new : Session) (commits : History) (own : WriteSet)
     (table : ℕ) (found : Result (List Row) E)

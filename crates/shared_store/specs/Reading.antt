@@ -1,5 +1,6 @@
 -- What is read of a block, and blocks read one after another.
-use Rattle.std.specs.Prelude.{◌≡◌, ◌⊎◌, ℕ, ◌+◌, ◌*◌, ◌≤◌, false, List, [], ◌∷◌, All, Some, Result, Ok, Err}
+use Rattle.std.specs.Prelude.{◌≡◌, ◌⊎◌, ℕ, ◌+◌, ◌*◌, ◌≤◌, false, List, [], ◌∷◌, All, Some, Result}
+use Rattle.std.specs.Prelude.{Ok, Err}
 use Rattle.std.specs.Prelude.{count_by, length}
 use Rattle.block_spec.specs.Slots.{Row}
 use Rattle.cell_model.specs.Rows.{Fits}
@@ -21,9 +22,9 @@ use Rattle.store_laws.specs.Own.{occurrence_at}
 use Rattle.store_laws.specs.Stretches.{is_event}
 use Rattle.shared_store.specs.Lending.{EndsLend, ImagedIs, IsLendOf}
 use Rattle.shared_store.specs.Making.{IsFew, MakesHeld}
-use Rattle.shared_store.specs.Store.{EndsWithLast, HandsView, IsFree, IsSession, IsWithin, KeepsLend}
-use Rattle.shared_store.specs.Store.{SeatView, StoreView, TookPartsOf, events_made, own_of, seen}
-use Rattle.shared_store.specs.Store.{shape_in, taken_by, view_of}
+use Rattle.shared_store.specs.Store.{EndsWithLast, HandsView, IsFree, IsSession, IsWithin}
+use Rattle.shared_store.specs.Store.{KeepsLend, SeatView, StoreView, TookPartsOf, events_made}
+use Rattle.shared_store.specs.Store.{own_of, seen, shape_in, taken_by, view_of}
 use Rattle.shared_store.specs.declared.reading.SeenBlock.{SeenBlock}
 use Rattle.shared_store.specs.declared.reading.SeenBlock.TheVariants as block
 use Rattle.shared_store.specs.declared.session.Session.{Session}
@@ -64,8 +65,8 @@ read_reply (Ok rows) = reply.Rows rows
 read_reply (Err memory) = reply.Memory
 
 abbrev pub ReadsAnyHeld
-    : {E : Type 0} → StoreView → SeatView → HandsView → SeatView → HandsView → OwnTransaction → ℕ → ℕ
-    → Result (List Row) E → Type 0
+    : {E : Type 0} → StoreView → SeatView → HandsView → SeatView → HandsView → OwnTransaction
+    → ℕ → ℕ → Result (List Row) E → Type 0
 ReadsAnyHeld store old hands new later own table at result = (session : ℕ)
     → IsWithin store session old hands (Some own)
     → MakesHeld store session old new hands later (Some own) (event.Read own table at)
@@ -73,16 +74,16 @@ ReadsAnyHeld store old hands new later own table at result = (session : ℕ)
 
 -- ---- a session
 
--- What was made for the read of a block: that read alone, which was told this; or nothing, where there
--- was no memory to lend the block.
+-- What was made for the read of a block: that read alone, which was told this; or nothing, where
+-- there was no memory to lend the block.
 abbrev pub IsReadOf : ℕ → OwnTransaction → ℕ → ℕ → CoreReply → List Occurrence → Type 0
 IsReadOf session own table at told made =
     ((parts : Parts) × (made ≡ occurrence_at session parts (event.Read own table at) told ∷ []))
     ⊎ ((told ≡ reply.Memory) × (made ≡ []))
 
 -- The session read the block: it lent it, which is no event, or made this event alone. It took the
--- block's body and no other part, and has open what it had. The rows that it was told fit the table,
--- and are no more than a block has slots.
+-- block's body and no other part, and has open what it had. The rows that it was told fit the
+-- table, and are no more than a block has slots.
 pub record ReadsBlock
     (store : StoreView) (old new : Session) (own : OwnTransaction) (table at : ℕ) (told : CoreReply)
     : Type 0 where

@@ -1,5 +1,6 @@
 -- What a store and its sessions are, between two calls.
-use Rattle.std.specs.Prelude.{◌≡◌, ◌≢◌, ℕ, ◌+◌, ◌<◌, ◌≤◌, ◌^◌, true, false, List, [], ◌∷◌, ◌++◌, All}
+use Rattle.std.specs.Prelude.{◌≡◌, ◌≢◌, ℕ, ◌+◌, ◌<◌, ◌≤◌, ◌^◌, true, false, List, [], ◌∷◌, ◌++◌}
+use Rattle.std.specs.Prelude.{All}
 use Rattle.std.specs.Prelude.{Option, Some, IfSome, None, count_by, length, map, option_map}
 use Rattle.std.specs.List.{last_or}
 use Rattle.atomic_table.specs.declared.shared.Seat.{Seat}
@@ -50,8 +51,8 @@ SeatView = Seat (Option CorePart) (View CoreEvent)
 abbrev pub HandsView : Type 0
 HandsView = List (List (Option CorePart))
 
--- A session's pass, whatever it holds, which is about to thaw a part: `thawing` is one more than that
--- part's number, or 0. The session has this open.
+-- A session's pass, whatever it holds, which is about to thaw a part: `thawing` is one more than
+-- that part's number, or 0. The session has this open.
 pub record IsWithinAt
     (thawing : ℕ) (store : StoreView) (session : ℕ) (seat : SeatView) (hands : HandsView)
     (own : Option OwnTransaction)
@@ -102,8 +103,8 @@ view_of s = s.pass.seat.me.0
 abbrev pub IsFree : Session → Type 0
 IsFree s = (view_of s).claim ≡ 0
 
--- What a pass has lent, it has lent still: it has the same claim, on a block that was frozen with the
--- same stamp.
+-- What a pass has lent, it has lent still: it has the same claim, on a block that was frozen with
+-- the same stamp.
 pub record KeepsLend (old new : View CoreEvent) : Type 0 where
   pub claim : new.claim ≡ old.claim
   pub claimed : new.claim ≢ 0 → new.claimed ≡ old.claimed
@@ -175,9 +176,9 @@ EndsCall told made log = IfSome (last_or None made) (λ last. is_event last ≡ 
     → (told ≡ said.Memory → reads_block last.event ≡ true → is_refused last ≡ true)
     → (before : List Logged) × (log ≡ before ++ entry_of last.session last.event last.reply ∷ []))
 
--- The session carried out the command and was told this line: these are the events that it made, and
--- the reads for which it lent blocks. It took no other parts than those that the command's events
--- touch, and has lent what it had lent.
+-- The session carried out the command and was told this line: these are the events that it made,
+-- and the reads for which it lent blocks. It took no other parts than those that the command's
+-- events touch, and has lent what it had lent.
 pub record Answers (store : StoreView) (old new : Session) (command : Command) (told : Said)
     : Type 0 where
   pub made : List Occurrence

@@ -1,5 +1,6 @@
 //! Changing rows: where the block of a row is imaged, it is thawed before.
-ghost use Rattle.std.specs.Prelude.{◌≡◌, ◌<◌, IfOk, None, OnErr, Option, Some, true, is_some, length};
+ghost use Rattle.std.specs.Prelude.{◌≡◌, ◌<◌, IfOk, None, OnErr, Option, Some, true, is_some};
+ghost use Rattle.std.specs.Prelude.{length};
 ghost use Rattle.block_spec.specs.Slots.{Row as RowView};
 ghost use Rattle.engine_core.specs.Asks.{HasKeyParts, IsOfCore};
 ghost use Rattle.event_spec.specs.Parts.{Parts};

@@ -78,8 +78,8 @@ impl Store {
         self.make_held_by::<Brand>(pass, event, Blank::new(1))
     }
 
-    /// Thaws the imaged block whose body a pass holds: waits until no reader is in it, and makes the
-    /// event. Where memory is refused the block stays frozen.
+    /// Thaws the imaged block whose body a pass holds: waits until no reader is in it, and makes
+    /// the event. Where memory is refused the block stays frozen.
     pub(crate) fn thaw_held<R: Wait>(
         &self,
         rt: &R,

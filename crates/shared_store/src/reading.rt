@@ -19,8 +19,8 @@ use std::sync::Wait;
 use std::sync::ledger::Ledger;
 
 /// What a session sees of a block: the image of a frozen block, lent, which has just the rows that
-/// the session's transaction sees there; or these rows, as an event read them, in the order of their
-/// slots.
+/// the session's transaction sees there; or these rows, as an event read them, in the order of
+/// their slots.
 pub enum SeenBlock {
     Lent(Lend),
     Rows(ReadRows),
@@ -93,8 +93,8 @@ impl Store {
         }
     }
 
-    /// What stands in the word of a block at one moment of the call: its state, the stamp of its last
-    /// seal and how many readers are in it, as [`block_word::unpack`] tells them.
+    /// What stands in the word of a block at one moment of the call: its state, the stamp of its
+    /// last seal and how many readers are in it, as [`block_word::unpack`] tells them.
     pub fn word_of(&self, table: u32, block: u32) -> u64
         requires { HasBlock (shape_in self.now) table block }
     {

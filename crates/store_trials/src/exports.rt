@@ -14,8 +14,8 @@ use std::sync::Wait;
 use std::test::Fail;
 use store_export::{ExportFault, export_uncounted};
 
-/// How many bytes the sink takes: the message of the schema, the head of that of the block, and three
-/// of the block's six keys.
+/// How many bytes the sink takes: the message of the schema, the head of that of the block, and
+/// three of the block's six keys.
 const ROOM: usize = 160 + 152 + 24;
 
 /// A writer that takes bytes as long as it has room, and then fails.
