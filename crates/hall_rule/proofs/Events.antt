@@ -11,7 +11,7 @@ use Rattle.hall_rule.specs.HallInvariant.{HallInvariant, Owners, block_word, han
 use Rattle.hall_rule.specs.Rule.{Rule}
 use Rattle.hall_rule.specs.Hands.{Agrees, Covers, Holds}
 use Rattle.hall_rule.specs.Meaning.{Laws, Meaning}
-use Rattle.hall_rule.specs.Views.{Adds, Learned, Sees, added}
+use Rattle.hall_rule.specs.Views.{Adds, Learned, Sees, added, looked}
 use Rattle.hall_rule.specs.declared.view.Entry.{Entry}
 use Rattle.hall_rule.specs.declared.view.View.{View}
 use Rattle.hall_rule.proofs.EventWords.{event_words}
@@ -149,7 +149,7 @@ module _ {P E T F : Type 0} (M : Meaning P E T F) (laws : Laws M) where
   pub sees : (slots id : ℕ) (v : View E) → v.spent ≡ false → Allows (Rule M) slots id (v, []) 0 (λ n. n) (Sees M id v)
   sees slots id v live s kept deep at fits =
       let log = kept.0 in
-      let w : View E = record v { log = log } in
+      let w : View E = looked v log in
       let old = (parts_of kept.2).at_home.each id v at live in (
         w,
         keeps,
@@ -183,5 +183,5 @@ module _ {P E T F : Type 0} (M : Meaning P E T F) (laws : Laws M) where
               }))
               (still_words M log kept.1 s s.homes id v w (parts_of kept.2) (words_of kept.2) at live refl)),
         ),
-        (log, learns M laws log kept.1 s id v (parts_of kept.2) (words_of kept.2) at live, refl, refl),
+        (log, learns M laws log kept.1 s id v (parts_of kept.2) (words_of kept.2) at live, refl, refl, (parts_of kept.2).one_log.counted),
       )

@@ -151,13 +151,13 @@ module _ {P E T F : Type 0} (M : Meaning P E T F) (log : List (Entry E)) (o : Ow
 -- Steps that change nothing but what is out, or how much was seen.
 module _ {P E T F : Type 0} (M : Meaning P E T F) (log : List (Entry E)) (o : Owners) (s : State (Option P) (View E)) (homes : Homes M) (id : ℕ) (v w : View E)
     (kept : PartsHold M log o s) (b : WordsHold M log s) (at : get_elem? s.views id ≡ maybe.some v) (live : v.spent ≡ false)
-    (same : record v { log = w.log; before = w.before; out = w.out } ≡ w) where
+    (same : record v { log = w.log; looks = w.looks; before = w.before; out = w.out } ≡ w) where
   abbrev Wears' : View E → Type 0
   Wears' x = WordsHold M log record { words = s.words; homes = homes; views = set s.views id x }
 
   pub still_words : Wears' w
   still_words =
-      let x : View E = record v { log = w.log; before = w.before; out = w.out } in
+      let x : View E = record v { log = w.log; looks = w.looks; before = w.before; out = w.out } in
       let old = b.words.each id v at live in
       subst Wears' same
       (worded M log log o s s.words homes id v x kept b at live (wears_so M log s s.words id v x b at live (record {

@@ -16,7 +16,7 @@ use Rattle.hall_rule.proofs.Halves.{PartsHold}
 
 -- What every step that makes no event leaves of a view as it was.
 abbrev pub lasting : {E : Type 0} → View E → View E
-lasting v = record v { log = []; before = []; stages = []; out = 0; taken = []; worn = []; drained = 0; claim = 0; claimed = 0; bump = 0; found = []; spent = false }
+lasting v = record v { log = []; looks = 0; before = []; stages = []; out = 0; taken = []; worn = []; drained = 0; claim = 0; claimed = 0; bump = 0; found = []; spent = false }
 
 module _ {P E T F : Type 0} (M : Meaning P E T F) where
   -- What a step owes that makes no event: the view's log stays, or becomes the whole log.

@@ -47,6 +47,10 @@ module _ {E : Type 0} where
     worn = slice_set v.worn k head;
   }
 
+  -- The whole log is seen.
+  abbrev pub looked : View E → List (Entry E) → View E
+  looked v log = record v { log = log; looks = v.looks + 1 }
+
   -- The word of the part k gets this head.
   abbrev pub turned : View E → ℕ → ℕ → View E
   turned v k head = record v { worn = slice_set v.worn k head; drained = 0 }
@@ -129,6 +133,7 @@ module _ {E : Type 0} where
   newcomer v sessions = record {
     joined = [];
     log = v.log;
+    looks = 0;
     before = [];
     heard = [];
     mine = [];
@@ -177,6 +182,7 @@ module _ {E : Type 0} where
   spent_view = record {
     joined = [];
     log = [];
+    looks = 0;
     before = [];
     heard = [];
     mine = [];
@@ -276,10 +282,10 @@ module _ {P E T F : Type 0} (M : Meaning P E T F) where
   Adds id v e n me = (before : List (Entry E)) × Learned id v before × (me.0 ≡ added v before e)
       × (me.1 ≡ []) × KeepsClaim v (before ++ e ∷ [])
 
-  -- The log was seen.
+  -- The log was looked at: it is as long as the number that the load found.
   abbrev pub Sees : ℕ → View E → ℕ → Me (Option P) (View E) → Type 0
-  Sees id v n me = (log : List (Entry E)) × Learned id v log × (me.0 ≡ record v { log = log })
-      × (me.1 ≡ [])
+  Sees id v n me = (log : List (Entry E)) × Learned id v log × (me.0 ≡ looked v log) × (me.1 ≡ [])
+      × (n ≡ length log)
 
   -- The word of the part k was entered, and the number n was found in it. Where the part is in the
   -- hand, n has the head that the pass knows.

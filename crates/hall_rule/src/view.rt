@@ -26,6 +26,9 @@ pub struct View<E> {
     pub joined: LinkedList<u64>,
     /// The log as far as it was seen.
     pub log: LinkedList<Entry<E>>,
+    /// How often it looked at the log: saw the whole of it by a load of the event word that took no
+    /// part.
+    pub looks: u64,
     /// The log when the pass last took a part, made an event or joined another.
     pub before: LinkedList<Entry<E>>,
     /// The log of the pass that was last joined into it.

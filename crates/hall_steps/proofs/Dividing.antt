@@ -7,7 +7,7 @@ use Rattle.atomic_table.specs.declared.shared.Seat.{Seat}
 use Rattle.hall_rule.specs.HallInvariant.{hands_of, worn_by}
 use Rattle.hall_rule.specs.Hands.{Holds}
 use Rattle.hall_rule.specs.Meaning.{Laws, Meaning}
-use Rattle.hall_rule.specs.Views.{Sees, dealt, greatest, joined_by, newcomer, without}
+use Rattle.hall_rule.specs.Views.{Sees, dealt, greatest, joined_by, looked, newcomer, without}
 use Rattle.hall_rule.specs.declared.view.View.{View}
 use Rattle.hall_rule.proofs.Logs.{stays}
 use Rattle.hall_rule.proofs.Numbers.{has_left, has_right, has_without, without_distinct, without_length}
@@ -126,7 +126,7 @@ module _ {P E T F : Type 0} (M : Meaning P E T F) where
   new_knows id v rs n me hand stages wide empty sees =
       let log = sees.0 in
       let l = sees.1 in
-      let w : View E = record (newcomer v rs) { log = log } in
+      let w : View E = looked (newcomer v rs) log in
       let at : me ≡ (w, []) = λ i. (sees.2 i, sees.3 i) in
       let knows : Knows M id (w, []) hand = record {
         none_out = refl;
@@ -258,7 +258,7 @@ module _ {P E T F : Type 0} (M : Meaning P E T F) where
       let sees' : Sees M s.id x n t.me = subst (λ (i : ℕ). Sees M i x n t.me) sf.1 (subst (λ (y : Me (Option P) (View E)). Sees M f.id y.0 n t.me) both sees) in
       let log = sees'.0 in
       let l = sees'.1 in
-      let w : View E = record x { log = log } in
+      let w : View E = looked x log in
       let at : t.me ≡ (w, []) = λ i. (sees'.2 i, sees'.3 i) in
       let knows = pass.of.1 in
       let know : Knows M s.id (w, []) (first_of (hands ++ theirs)) = record {

@@ -1,5 +1,5 @@
 //! Making passes, and joining them.
-ghost use Rattle.std.specs.Prelude.{◌≡◌, ◌^◌, ◌<◌, ◌≤◌, ℕ, [], ◌∷◌, true, false, length};
+ghost use Rattle.std.specs.Prelude.{◌≡◌, ◌+◌, ◌^◌, ◌<◌, ◌≤◌, ℕ, [], ◌∷◌, true, false, length};
 ghost use Rattle.hall_rule.specs.EventLog.{has, under};
 ghost use Rattle.hall_rule.specs.HallInvariant.{hands_of};
 ghost use Rattle.hall_rule.specs.Hands.{Holds};
@@ -73,12 +73,13 @@ impl<C: Parts> Hall<C> {
         }
     }
 
-    /// Sees the whole log.
+    /// Looks at the log, and sees the whole of it.
     #[inline(always)]
     pub fn look(&self, pass: &mut Pass<C>)
         requires pass { IsPass (means C.Parts self.now) self.now.id pass.old.seat pass.old.hands }
         ensures pass { IsPass (means C.Parts self.now) self.now.id pass.new.seat pass.new.hands }
         ensures seen { Looks (means C.Parts self.now) pass.old.seat pass.new.seat }
+        ensures looked { pass.new.seat.me.0.looks ≡ pass.old.seat.me.0.looks + 1 }
         ensures hand { pass.new.hands ≡ pass.old.hands }
         ensures taken { pass.new.seat.me.0.taken ≡ pass.old.seat.me.0.taken }
     {

@@ -86,7 +86,10 @@ pub(crate) fn enter_block<C: Parts>(
     ensures seat { IsSameSeat seat.old seat.new }
     ensures pass { IsOf (planned C.Parts board.now.key) board.now.table_id seat.new hand.now }
     ensures entered { (n : ℕ) × EnterTells part n result
-        × (seat.new.me.0 ≡ record (tried seat.old.me.0 part n) { log = seat.new.me.0.log }) }
+        × (seat.new.me.0 ≡ record (tried seat.old.me.0 part n) {
+          log = seat.new.me.0.log;
+          looks = seat.new.me.0.looks;
+        }) }
     ensures stays { Stays (planned C.Parts board.now.key) seat.old.me.0.sessions seat.old.me.0.log
         seat.new.me.0.log }
     ensures in_hand { (p : C.Part) → slice_get hand.now part ≡ Some (Some p)
@@ -151,7 +154,10 @@ impl<C: Parts> Hall<C> {
         ensures seat { IsSameSeat pass.old.seat pass.new.seat }
         ensures hand { pass.new.hands ≡ pass.old.hands }
         ensures entered { (n : ℕ) × EnterTells part n result × (pass.new.seat.me.0
-            ≡ record (tried pass.old.seat.me.0 part n) { log = pass.new.seat.me.0.log }) }
+            ≡ record (tried pass.old.seat.me.0 part n) {
+              log = pass.new.seat.me.0.log;
+              looks = pass.new.seat.me.0.looks;
+            }) }
         ensures stays { Stays (means C.Parts self.now) pass.old.seat.me.0.sessions
             pass.old.seat.me.0.log pass.new.seat.me.0.log }
         ensures in_hand { (p : C.Part) → slice_get (first_of pass.old.hands) part ≡ Some (Some p)

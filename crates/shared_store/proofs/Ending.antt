@@ -32,7 +32,7 @@ use Rattle.shared_store.proofs.Sessions.{session_is}
 module _ (store : StoreView) (old new : Session) (lend : LendView) (t : SeatView) (hands : HandsView) (is : IsSession store old)
     (there : IsPass (store_meaning (shape_in store)) store.id t hands) (looks : Looks (store_meaning (shape_in store)) old.pass.seat t) (held : hands ≡ old.pass.hands)
     (gone : IsPass (store_meaning (shape_in store)) store.id new.pass.seat new.pass.hands) (view : new.pass.seat.me.0 ≡ left t.me.0) (kept : new.pass.hands ≡ hands)
-    (same : new.session ≡ old.session) (opened : own_of new ≡ own_of old) (took : t.me.0.taken ≡ old.pass.seat.me.0.taken)
+    (same : new.session ≡ old.session) (opened : own_of new ≡ own_of old) (took : t.me.0.taken ≡ old.pass.seat.me.0.taken) (anew : t.me.0.looks ≡ old.pass.seat.me.0.looks + 1)
   where
     -- The look shows what was made since.
     on : SeesOn (shape_in store) old.session old.pass.seat.me.0 t.me.0 (own_of old)
@@ -98,6 +98,7 @@ module _ (store : StoreView) (old new : Session) (lend : LendView) (t : SeatView
       made = ap (λ (es : List (Entry CoreEvent)). length es) (ap (λ (v : View CoreEvent). v.mine) view ∙ looks.1.mine);
       taken = ap (λ (v : View CoreEvent). v.taken) view ∙ took;
       is_open = stays_on store old new session same opened goes own;
+      looked = let l = ap (λ (v : View CoreEvent). v.looks) view in omega (arith, l, anew);
       free = ap (λ (v : View CoreEvent). v.claim) view;
       stayed = stayed;
     }

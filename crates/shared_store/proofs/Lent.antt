@@ -178,26 +178,26 @@ is_wanting (Err fault.Memory) = true
 -- A pass that entered a word under the part's latch, and saw no more of the log by that.
 module _ (store : StoreView) (session : ℕ) (s t : SeatView) (hands later : HandsView) (own : Option OwnTransaction) (part n : ℕ)
     (within : IsWithin store session s hands own) (there : IsPass (store_meaning (shape_in store)) store.id t later)
-    (view : t.me.0 ≡ record (tried s.me.0 part n) { log = t.me.0.log }) (log : t.me.0.log ≡ s.me.0.log)
+    (view : t.me.0 ≡ record (tried s.me.0 part n) { log = t.me.0.log; looks = t.me.0.looks }) (log : t.me.0.log ≡ s.me.0.log)
   where
     -- What it leaves of the view.
-    entered_same : {X : Type 0} (F : View CoreEvent → X) → ((v : View CoreEvent) (l : List (Entry CoreEvent)) → F (record v { log = l }) ≡ F v)
+    entered_same : {X : Type 0} (F : View CoreEvent → X) → ((v : View CoreEvent) (l : List (Entry CoreEvent)) (m : ℕ) → F (record v { log = l; looks = m }) ≡ F v)
         → ((v : View CoreEvent) → F (claimed v part n) ≡ F v) → ((v : View CoreEvent) → F (left (bumped v part n)) ≡ F v) → F t.me.0 ≡ F s.me.0
-    entered_same F apart one other = ap F view ∙ apart (tried s.me.0 part n) t.me.0.log ∙ tried_same F s.me.0 part n (one s.me.0) (other s.me.0)
+    entered_same F apart one other = ap F view ∙ apart (tried s.me.0 part n) t.me.0.log t.me.0.looks ∙ tried_same F s.me.0 part n (one s.me.0) (other s.me.0)
 
     pub entered_mine : t.me.0.mine ≡ s.me.0.mine
-    entered_mine = entered_same (λ (v : View CoreEvent). v.mine) (λ v l. refl) (λ v. refl) (λ v. refl)
+    entered_mine = entered_same (λ (v : View CoreEvent). v.mine) (λ v l m. refl) (λ v. refl) (λ v. refl)
 
     pub entered_taken : t.me.0.taken ≡ s.me.0.taken
-    entered_taken = entered_same (λ (v : View CoreEvent). v.taken) (λ v l. refl) (λ v. refl) (λ v. refl)
+    entered_taken = entered_same (λ (v : View CoreEvent). v.taken) (λ v l m. refl) (λ v. refl) (λ v. refl)
 
     -- it knows what it knew
     pub entered_within : IsWithin store session t later own
     entered_within = record {
       pass = there;
       knows = knows_same (shape_in store) session s.me.0 t.me.0 own log
-          (entered_same (λ (v : View CoreEvent). v.sessions) (λ v l. refl) (λ v. refl) (λ v. refl))
-          (entered_same (λ (v : View CoreEvent). v.sole) (λ v l. refl) (λ v. refl) (λ v. refl)) within.knows;
+          (entered_same (λ (v : View CoreEvent). v.sessions) (λ v l m. refl) (λ v. refl) (λ v. refl))
+          (entered_same (λ (v : View CoreEvent). v.sole) (λ v l m. refl) (λ v. refl) (λ v. refl)) within.knows;
     }
 
     -- The block is the part's, which lies in the hand.

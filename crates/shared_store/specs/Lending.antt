@@ -1,7 +1,7 @@
 -- Lends: the image of a block, read in place for as long as the session's claim on the block
 -- stands.
-use Rattle.std.specs.Prelude.{◌≡◌, ℕ, ◌+◌, ◌*◌, ◌^◌, Bool, true, false, List, [], ◌∷◌, ◌++◌, Option}
-use Rattle.std.specs.Prelude.{None, Some}
+use Rattle.std.specs.Prelude.{◌≡◌, ℕ, ◌+◌, ◌*◌, ◌^◌, ◌<◌, Bool, true, false, List, [], ◌∷◌, ◌++◌}
+use Rattle.std.specs.Prelude.{Option, None, Some}
 use Rattle.std.specs.Prelude.{Result, Ok, Err, slice_get}
 use Rattle.block_spec.specs.Bodies.{is_imaged, rows_of}
 use Rattle.block_spec.specs.declared.phase.Phase.TheVariants.{Imaged}
@@ -139,9 +139,14 @@ pub record Lends
   pub looks : LooksAt store old new table block
   pub answers : LendAnswers (shape_in store) (view_of new) (own_of new) table block result
 
+-- The pass has looked at the log since.
+abbrev pub LooksAnew : View CoreEvent → View CoreEvent → Type 0
+LooksAnew old new = old.looks < new.looks
+
 -- A lend was given back: the session has lent nothing any more. It made no event and took no part,
--- and has open what it had. In the log that it has seen by then the block is imaged with the same
--- stamp, and its rows are still those that were lent.
+-- and has open what it had. It has looked at the log: what it has seen by then has all that stood
+-- there when the call was made. In this log the block is imaged with the same stamp, and its rows are
+-- still those that were lent.
 pub record EndsLend (store : StoreView) (old new : Session) (lend : LendView) : Type 0 where
   pub session : IsSession store new
   pub same : new.session ≡ old.session
@@ -152,6 +157,7 @@ pub record EndsLend (store : StoreView) (old new : Session) (lend : LendView) : 
   pub made : events_made new ≡ events_made old
   pub taken : taken_by new ≡ taken_by old
   pub is_open : StaysOpen store old new
+  pub looked : LooksAnew (view_of old) (view_of new)
   pub free : IsFree new
   pub stayed : (table block stamp : ℕ)
       → HasLent (shape_in store) (view_of old) (own_of old) lend table block stamp

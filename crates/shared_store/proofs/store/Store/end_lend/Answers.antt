@@ -21,4 +21,4 @@ returns c =
     let there = by_laws (λ M w. IsPass M w.id t.seat t.hands) c.self.inside.hall st c.self.invariant c.self.view_is c.look.ensures.pass in
     let looks = by_laws (λ M w. Looks M s.pass.seat t.seat) c.self.inside.hall st c.self.invariant c.self.view_is c.look.ensures.seen in
     let gone = by_laws (λ M w. IsPass M w.id u.seat u.hands) c.self.inside.hall st c.self.invariant c.self.view_is c.leave.ensures.pass in
-    lend_ended st s new c.args.lend t.seat t.hands c.requires.session there looks c.look.ensures.hand gone c.leave.ensures.view c.leave.ensures.hand refl refl c.look.ensures.taken
+    lend_ended st s new c.args.lend t.seat t.hands c.requires.session there looks c.look.ensures.hand gone c.leave.ensures.view c.leave.ensures.hand refl refl c.look.ensures.taken c.look.ensures.looked
