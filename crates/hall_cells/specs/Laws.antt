@@ -1,7 +1,8 @@
 -- The laws of the marks.
 use Rattle.std.proofs.Common.{◌≡◌, ◌≢◌, ℕ, zero, suc, ◌+◌, ◌<◌, eqb, cond, List, [], ◌∷◌, Option}
 use Rattle.std.proofs.Common.{None, Some, length, set, get_or-set_same, get_or-set_other}
-use Rattle.std.proofs.Common.{◌^◌, inl, inr, length-set, refl, sym, ap, subst, ◌∙◌, eq-eqb, ne_eqb, arith}
+use Rattle.std.proofs.Common.{◌^◌, inl, inr, length-set, refl, sym, ap, subst, ◌∙◌, eq-eqb, ne_eqb}
+use Rattle.std.proofs.Common.{arith}
 use Rattle.std.specs.Prelude.{slice_get, slice_index}
 use Rattle.hall_cells.specs.Marks.{Fits, IsLeast, IsOpening, Stands, Teaches, after_deed, open_of}
 use Rattle.hall_cells.specs.Marks.{reply_of, session_of, touches_part}
@@ -32,7 +33,10 @@ opened sh s (suc q) e lt = ap (λ b. cond b (Some (suc q)) None) (eq-eqb (slice_
 pub opened_is : (sh : ℕ) (s : List ℕ) (q : ℕ) → open_of sh s q ≡ Some q → slice_index s 0 ≡ q
 opened_is sh s zero e = absurd (cc)
 opened_is sh s (suc q) e = by_cases (slice_index s 0) (suc q) (slice_index s 0 ≡ suc q) (λ x. x)
-    (λ ne. let f : None ≡ Some (suc q) = ap (λ b. cond b (Some (suc q)) None) (sym (ne_eqb (slice_index s 0) (suc q) ne)) ∙ e in absurd (cc))
+    (λ ne.
+    let none' = sym (ne_eqb (slice_index s 0) (suc q) ne) in
+    let f : None ≡ Some (suc q) = ap (λ b. cond b (Some (suc q)) None) none' ∙ e in
+    absurd (cc))
 
 closed : (sh : ℕ) (s : List ℕ) (q : ℕ) → slice_index s 0 ≢ q → open_of sh s q ≡ None
 closed sh s zero ne = refl
@@ -51,14 +55,17 @@ opened_ends sh s (suc q) e = opened_is sh s (suc q) e
 
 pub ended_closed : (sh : ℕ) (s : List ℕ) (q : ℕ) → 0 < length s → open_of sh (set s 0 0) q ≡ None
 ended_closed sh s zero lt = refl
-ended_closed sh s (suc q) lt = let n = get_or-set_same s 0 0 0 lt in closed sh (set s 0 0) (suc q) (λ e. absurd (omega (arith, n, e)))
+ended_closed sh s (suc q) lt =
+    let n = get_or-set_same s 0 0 0 lt in
+    closed sh (set s 0 0) (suc q) (λ e. absurd (omega (arith, n, e)))
 
 -- a raised mark leaves each transaction as it was
 pub raise_leaves : (sh : ℕ) (s : List ℕ) (p x q : ℕ) → 0 < p → open_of sh (set s p x) q
     ≡ open_of sh s q
 raise_leaves sh s p x zero lt = refl
 raise_leaves sh s p x (suc q) lt =
-    let n : slice_index (set s p x) 0 ≡ slice_index s 0 = get_or-set_other s p 0 x 0 (λ e. absurd (omega (arith, e, lt))) in
+    let n : slice_index (set s p x) 0 ≡ slice_index s 0 =
+    get_or-set_other s p 0 x 0 (λ e. absurd (omega (arith, e, lt))) in
     ap (λ y. cond (eqb y (suc q)) (Some (suc q)) None) n
 
 pub rests : (sh : ℕ) (s : List ℕ) (q : ℕ) → IsOpening sh s → open_of sh s q ≡ None
@@ -79,11 +86,20 @@ ascends sh (End q) h i k = refl
 pub frame : (sh : ℕ) (e : Deed) (h : List (Option ℕ)) (s : List ℕ) → length s ≡ sh
     → Covers (touches_part sh e) h → Agrees h s → Fits sh e s → OnlyHeld h s (after_deed sh e s)
 frame sh (Begin q) h s ok covers agrees fits k away =
-    get_set_else s 0 k q (λ e. away (subst (Holds h) (sym e) (covers 0 (let n = agrees.0 in let f = fits.0 in omega (arith, n, f, ok)) (eq-eqb 0 0 refl))))
+    let n = agrees.0 in
+    let f = fits.0 in
+    let held = covers 0 (omega (arith, n, f, ok)) (eq-eqb 0 0 refl) in
+    get_set_else s 0 k q (λ e. away (subst (Holds h) (sym e) held))
 frame sh (End q) h s ok covers agrees fits k away =
-    get_set_else s 0 k 0 (λ e. away (subst (Holds h) (sym e) (covers 0 (let n = agrees.0 in let f = fits in omega (arith, n, f, ok)) (eq-eqb 0 0 refl))))
+    let n = agrees.0 in
+    let f = fits in
+    let held = covers 0 (omega (arith, n, f, ok)) (eq-eqb 0 0 refl) in
+    get_set_else s 0 k 0 (λ e. away (subst (Holds h) (sym e) held))
 frame sh (Raise q p by) h s ok covers agrees fits k away =
-    get_set_else s p k (slice_index s p + by) (λ e. away (subst (Holds h) (sym e) (covers p (let n = agrees.0 in let f = fits.1 in omega (arith, n, f, ok)) (eq-eqb p p refl))))
+    let n = agrees.0 in
+    let f = fits.1 in
+    let held = covers p (omega (arith, n, f, ok)) (eq-eqb p p refl) in
+    get_set_else s p k (slice_index s p + by) (λ e. away (subst (Holds h) (sym e) held))
 
 same_index : (h : List (Option ℕ)) (s t : List ℕ) (k : ℕ) → Agrees h s → Agrees h t → Holds h k
     → slice_index t k ≡ slice_index s k
@@ -93,11 +109,15 @@ same_index h s t k a b held = index_of_get t k held.0 (b.1 k held.0 held.1) ∙ 
 pub local : (sh : ℕ) (e : Deed) (h : List (Option ℕ)) (s t : List ℕ) → length s ≡ sh
     → Covers (touches_part sh e) h → Agrees h s → Agrees h t → Fits sh e s → Fits sh e t
 local sh (Begin q) h s t ok covers a b fits =
-    let held = covers 0 (let n = a.0 in let f = fits.0 in omega (arith, n, f, ok)) (eq-eqb 0 0 refl) in
+    let n = a.0 in
+    let f = fits.0 in
+    let held = covers 0 (omega (arith, n, f, ok)) (eq-eqb 0 0 refl) in
     (fits.0, same_index h s t 0 a b held ∙ fits.1, fits.2)
 local sh (End q) h s t ok covers a b fits = fits
 local sh (Raise q p by) h s t ok covers a b fits =
-    let held = covers p (let n = a.0 in let f = fits.1 in omega (arith, n, f, ok)) (eq-eqb p p refl) in
+    let n = a.0 in
+    let f = fits.1 in
+    let held = covers p (omega (arith, n, f, ok)) (eq-eqb p p refl) in
     let e = same_index h s t p a b held in
     (fits.0, fits.1, let f = fits.2 in omega (arith, e, f))
 
@@ -116,40 +136,52 @@ pub leaves : (sh : ℕ) (e : Deed) (s : List ℕ) (q : ℕ) → length s ≡ sh 
     → session_of e ≢ Some q → open_of sh (after_deed sh e s) q ≡ open_of sh s q
 leaves sh (Begin r) s zero ok stands fits ne = refl
 leaves sh (Begin r) s (suc q) ok stands fits ne =
-    let n : slice_index (set s 0 r) 0 ≡ r = get_or-set_same s 0 r 0 (let f = fits.0 in omega (arith, ok, f)) in
-    closed sh (set s 0 r) (suc q) (λ e. ne (ap Some (sym n ∙ e))) ∙ sym (closed sh s (suc q) (λ e. absurd (let f = fits.1 in omega (arith, f, e))))
+    let f = fits.0 in
+    let g = fits.1 in
+    let n : slice_index (set s 0 r) 0 ≡ r = get_or-set_same s 0 r 0 (omega (arith, ok, f)) in
+    closed sh (set s 0 r) (suc q) (λ e. ne (ap Some (sym n ∙ e))) ∙ sym
+    (closed sh s (suc q) (λ e. absurd (omega (arith, g, e))))
 leaves sh (End r) s zero ok stands fits ne = refl
 leaves sh (End zero) s (suc q) ok stands fits ne = absurd stands
 leaves sh (End (suc r)) s (suc q) ok stands fits ne =
-    let n : slice_index (set s 0 0) 0 ≡ 0 = get_or-set_same s 0 0 0 (let f = fits in omega (arith, ok, f)) in
+    let f = fits in
+    let n : slice_index (set s 0 0) 0 ≡ 0 = get_or-set_same s 0 0 0 (omega (arith, ok, f)) in
     closed sh (set s 0 0) (suc q) (λ e. absurd (omega (arith, n, e))) ∙ sym
     (closed sh s (suc q) (λ e. ne (ap Some (sym stands ∙ e))))
 leaves sh (Raise r p by) s zero ok stands fits ne = refl
 leaves sh (Raise r p by) s (suc q) ok stands fits ne =
     let f = fits.0 in
-    let n : slice_index (set s p (slice_index s p + by)) 0 ≡ slice_index s 0 = get_or-set_other s p 0 (slice_index s p + by) 0 (λ e. absurd (omega (arith, e, f))) in
+    let x : ℕ = slice_index s p + by in
+    let n : slice_index (set s p x) 0 ≡ slice_index s 0 =
+    get_or-set_other s p 0 x 0 (λ e. absurd (omega (arith, e, f))) in
     ap (λ x. cond (eqb x (suc q)) (Some (suc q)) None) n
 
 pub outlives : (sh : ℕ) (e : Deed) (f : Least) (s : List ℕ) → length s ≡ sh → Fits sh e s
     → IsLeast sh f s → IsLeast sh f (after_deed sh e s)
 outlives sh (Begin q) f s ok fits least =
     let p = least.0 in let a = least.1 in
-    let n : slice_index (set s 0 q) f.part ≡ slice_index s f.part = get_or-set_other s 0 f.part q 0 (λ e. absurd (omega (arith, e, p))) in
+    let n : slice_index (set s 0 q) f.part ≡ slice_index s f.part =
+    get_or-set_other s 0 f.part q 0 (λ e. absurd (omega (arith, e, p))) in
     (p, omega (arith, n, a))
 outlives sh (End q) f s ok fits least =
     let p = least.0 in let a = least.1 in
-    let n : slice_index (set s 0 0) f.part ≡ slice_index s f.part = get_or-set_other s 0 f.part 0 0 (λ e. absurd (omega (arith, e, p))) in
+    let n : slice_index (set s 0 0) f.part ≡ slice_index s f.part =
+    get_or-set_other s 0 f.part 0 0 (λ e. absurd (omega (arith, e, p))) in
     (p, omega (arith, n, a))
 outlives sh (Raise q p by) f s ok fits least =
     let a = least.1 in
     let x : ℕ = slice_index s p + by in
     by_cases f.part p (IsLeast sh f (set s p x))
     (λ e.
-    let n : slice_index (set s p x) p ≡ x = get_or-set_same s p x 0 (let b = fits.1 in omega (arith, b, ok)) in
+    let b = fits.1 in
+    let n : slice_index (set s p x) p ≡ x = get_or-set_same s p x 0 (omega (arith, b, ok)) in
     let n' : slice_index (set s p x) f.part ≡ x = ap (slice_index (set s p x)) e ∙ n in
     let m : slice_index s f.part ≡ slice_index s p = ap (slice_index s) e in
     (least.0, omega (arith, n', m, a)))
-    (λ ne. let n : slice_index (set s p x) f.part ≡ slice_index s f.part = get_or-set_other s p f.part x 0 ne in (least.0, omega (arith, n, a)))
+    (λ ne.
+    let n : slice_index (set s p x) f.part ≡ slice_index s f.part =
+    get_or-set_other s p f.part x 0 ne in
+    (least.0, omega (arith, n, a)))
 
 pub learns : (sh : ℕ) (e : Deed) (f : Least) (s : List ℕ) → length s ≡ sh → Fits sh e s
     → Teaches sh e (reply_of sh e s) f → IsLeast sh f (after_deed sh e s)
@@ -157,12 +189,13 @@ learns sh (Begin q) f s ok fits h = absurd h
 learns sh (End q) f s ok fits h = absurd h
 learns sh (Raise q p by) f s ok fits h =
     let x : ℕ = slice_index s p + by in
-    let n : slice_index (set s p x) p ≡ x = get_or-set_same s p x 0 (let b = fits.1 in omega (arith, b, ok)) in
+    let b = fits.1 in
+    let n : slice_index (set s p x) p ≡ x = get_or-set_same s p x 0 (omega (arith, b, ok)) in
     let n' : slice_index (set s p x) f.part ≡ x = ap (slice_index (set s p x)) h.0 ∙ n in
     let a = h.1 in
-    let b = fits.0 in
-    let c = h.0 in
-    (omega (arith, b, c), omega (arith, n', a))
+    let c = fits.0 in
+    let d = h.0 in
+    (omega (arith, c, d), omega (arith, n', a))
 
 -- the word of a mark, which is no block, stays 0
 pub wordless : 0 < 2 ^ 32

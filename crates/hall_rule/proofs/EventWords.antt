@@ -6,8 +6,8 @@ use mathlib.Core.Option as maybe
 use lib.ListN.{get_elem?}
 use Rattle.atomic_table.specs.Table.{State}
 use Rattle.hall_rule.specs.EventLog.{after, replay}
-use Rattle.hall_rule.specs.HallInvariant.{Claims, Owners, block_word, head_at, latch_word, readers_on, stage}
-use Rattle.hall_rule.specs.Heads.{IsFrozen, TurnsOn, head_in, readers_in}
+use Rattle.hall_rule.specs.HallInvariant.{Claims, Owners, block_word, head_at, latch_word, readers_on, stage, worn_by}
+use Rattle.hall_rule.specs.Heads.{IsFrozen, IsHot, MayTurn, TurnsOn, head_in, readers_in}
 use Rattle.hall_rule.specs.Meaning.{Laws, Meaning}
 use Rattle.hall_rule.specs.Views.{added}
 use Rattle.hall_rule.specs.declared.view.Entry.{Entry}
@@ -32,11 +32,22 @@ never_on h i f = ⊎_elim (λ t. let a = f.0 in let b = t.0 in omega (arith, a, 
     (⊎_elim (λ t. let a = f.0 in let b = t.0.1 in omega (arith, a, b))
     (λ t. let a = f.0 in let b = t.0.1 in omega (arith, a, b))))
 
+-- A word that is hot and may be turned to a frozen head has that head's stamp: its thaw waits.
+thaw_waits : (h i : ℕ) → IsHot h → IsFrozen i → MayTurn h i → i ≡ h + 3 * 2 ^ 30
+thaw_waits h i hot frozen = ⊎_elim (λ e. absurd (let a = frozen.0 in omega (arith, a, e, hot)))
+    (⊎_elim
+    (⊎_elim (λ t. absurd (let a = frozen.0 in let e = t.1 in omega (arith, a, e, hot)))
+    (⊎_elim (λ t. absurd (let a = t.0.0 in omega (arith, a, hot)))
+    (⊎_elim (λ t. absurd (let a = t.0.0 in omega (arith, a, hot)))
+    (λ t. absurd (let a = t.0.0 in omega (arith, a, hot))))))
+    (λ t. t.1))
+
 module _ {P E T F : Type 0} (M : Meaning P E T F) (laws : Laws M) (log : List (Entry E)) (o : Owners) (s : State (Option P) (View E)) (words : List ℕ) (homes : Homes M) (id : ℕ) (v : View E) (e : Entry E)
     (kept : PartsHold M log o s) (b : WordsHold M log s) (at : get_elem? s.views id ≡ maybe.some v) (live : v.spent ≡ false)
     (ok : M.sound (replay M log)) (stands : M.stands e.event (replay M log)) (fits : M.fits e.event (replay M log)) (room : length (replay M log) ≡ length M.start)
     (left : (k : ℕ) → stage v k ≢ 2 → slice_get (after M e (replay M log)) k ≡ slice_get (replay M log) k)
     (thawed : (k : ℕ) → M.thaws e.event ≡ Some k → v.drained ≡ suc k)
+    (follows : (k : ℕ) (p : P) → (M.thaws e.event ≡ Some k → ⊥) → stage v k ≡ 2 → slice_get (replay M log) k ≡ Some p → worn_by v k ≡ M.head p)
     (blocks : (k : ℕ) → slice_index words (block_word k) ≡ slice_index s.words (block_word k))
     (latches : (k : ℕ) → slice_index words (latch_word k) ≡ slice_index s.words (latch_word k)) where
   abbrev later : List (Entry E)
@@ -82,6 +93,22 @@ module _ {P E T F : Type 0} (M : Meaning P E T F) (laws : Laws M) (log : List (E
     word = ⊎_elim (λ x. inl (head_same k ∙ x)) (λ x. inr (ap (λ h. h + 3 * 2 ^ 30) (head_same k) ∙ x)) c.word;
   }
 
+  -- a word may still be turned to its part
+  near_stays : (k : ℕ) (q p : P) → stage v k ≡ 2 → slice_get (replay M log) k ≡ Some q → slice_get (replay M later) k ≡ Some p → MayTurn (worn_by v k) (M.head p)
+  near_stays k q p two was' is =
+      let near = (b.words.each id v at live).near k q two was' in
+      after_is M (λ (t : List P). (x : P) → slice_get t k ≡ Some x → MayTurn (worn_by v k) (M.head x)) e (replay M log)
+      (λ x there. subst (λ (y : P). MayTurn (worn_by v k) (M.head y)) (one_part (replay M log) k q x was' there) near)
+      (λ x there. ⊎_elim
+      (λ t.
+      let hot = (b.drains.each id v at live k (thawed k t.0)).hot in
+      let waits = thaw_waits (worn_by v k) (M.head q) hot t.1 near in
+      let thaw = t.2 in
+      inl (omega (arith, waits, thaw)))
+      (λ t. ⊎_elim (λ same. subst (MayTurn (worn_by v k)) (sym same) near) (λ on. inr (inl (subst (λ h. TurnsOn h (M.head x)) (sym (follows k q t.0 two was')) on))) t.1)
+      (laws.turns e.event (replay M log) k q x ok stands fits was' there))
+      p (ap (λ (t : List P). slice_get t k) (sym state) ∙ is)
+
   owed : Wears M log later s words id v (added v log e)
   owed =
       let old = b.words.each id v at live in
@@ -94,6 +121,7 @@ module _ {P E T F : Type 0} (M : Meaning P E T F) (laws : Laws M) (log : List (E
         own = record {
           taken = λ k one p is. head_same k ∙ old.taken k one p (sym (untouched k (λ two. absurd (omega (arith, one, two)))) ∙ is);
           worn = λ k two. head_same k ∙ old.worn k two;
+          near = λ k p two is. let q = was k two in near_stays k q.0 p two q.1 is;
           frozen = λ k p two frozen is.
               let q = was k two in
               let same = old.frozen k q.0 two frozen q.1 in

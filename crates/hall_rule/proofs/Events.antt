@@ -7,7 +7,7 @@ use Rattle.atomic_table.specs.Table.{Allows, State}
 use Rattle.atomic_table.specs.Table.Act.{keeps}
 use Rattle.atomic_table.proofs.Lists.{set_here}
 use Rattle.hall_rule.specs.EventLog.{LawfulFrom, Spares, Untouched, after, has, own, replay}
-use Rattle.hall_rule.specs.HallInvariant.{HallInvariant, Owners, block_word, hands_of, latch_word, stage}
+use Rattle.hall_rule.specs.HallInvariant.{HallInvariant, Owners, block_word, hands_of, latch_word, stage, worn_by}
 use Rattle.hall_rule.specs.Rule.{Rule}
 use Rattle.hall_rule.specs.Hands.{Agrees, Covers, Holds}
 use Rattle.hall_rule.specs.Meaning.{Laws, Meaning}
@@ -41,8 +41,9 @@ module _ {P E T F : Type 0} (M : Meaning P E T F) (laws : Laws M) where
     pub stands : M.stands event (replay M v.log)
     pub fits : M.fits event (replay M v.log)
     pub names : (q : ℕ) → M.names event ≡ Some q → has q v.sessions ≡ true
-    -- a block that it thaws was drained
+    -- a block that it thaws was drained, and the words of all others that are held follow them
     pub drained : (k : ℕ) → M.thaws event ≡ Some k → v.drained ≡ suc k
+    pub follows : (k : ℕ) (p : P) → (M.thaws event ≡ Some k → ⊥) → stage v k ≡ 2 → slice_get (replay M v.log) k ≡ Some p → worn_by v k ≡ M.head p
 
   -- It is lawful by every later log that the pass can see.
   pub stays_lawful : (id : ℕ) (hand : List (Option P)) (v : View E) (event : E) (log : List (Entry E)) → M.sound (replay M v.log) → length (replay M v.log) ≡ length M.start
@@ -130,6 +131,7 @@ module _ {P E T F : Type 0} (M : Meaning P E T F) (laws : Laws M) where
         let words : WordsHold M (log ++ e ∷ []) record { words = set s.words 0 ((n + 1) % 2 ^ 64); homes = s.homes; views = set s.views id w } =
         event_words M laws log kept.1 s (set s.words 0 ((n + 1) % 2 ^ 64)) s.homes id v e (parts_of kept.2) (words_of kept.2) at live (new log kept.1 s (parts_of kept.2) (words_of kept.2) at).sound (still log kept.1 s (parts_of kept.2) (words_of kept.2) at).1 (still log kept.1 s (parts_of kept.2) (words_of kept.2) at).2 (new log kept.1 s (parts_of kept.2) (words_of kept.2) at).room
         (left log kept.1 s (parts_of kept.2) (words_of kept.2) at) asks.drained
+        (λ k p unthawed two is. asks.follows k p unthawed two (sym ((new log kept.1 s (parts_of kept.2) (words_of kept.2) at).parts k two) ∙ is))
         (λ i. get_or-set_other s.words 0 (block_word i) ((n + 1) % 2 ^ 64) 0 (λ x. absurd (omega (arith, x)))) (λ i. get_or-set_other s.words 0 (latch_word i) ((n + 1) % 2 ^ 64) 0 (λ x. absurd (omega (arith, x)))) in
         let there : get_elem? (set s.views id w) id ≡ maybe.some w = set_here s.views id w (at_below s.views id v at) in (
           added v log e,
@@ -142,7 +144,7 @@ module _ {P E T F : Type 0} (M : Meaning P E T F) (laws : Laws M) where
                 (ending log kept.1 s (parts_of kept.2) (words_of kept.2) at (set s.words 0 ((n + 1) % 2 ^ 64)) (get_or-set_same s.words 0 ((n + 1) % 2 ^ 64) 0 wide ∙ next) (length-set s.words 0 ((n + 1) % 2 ^ 64)) (λ i. get_or-set_other s.words 0 (latch_word i) ((n + 1) % 2 ^ 64) 0 (λ x. absurd (omega (arith, x))))) laws)
                 words,
           ),
-          (log, new log kept.1 s (parts_of kept.2) (words_of kept.2) at, refl, refl, (λ k p is value. (words.claims.each id w there k is).imaged p value)),
+          (log, new log kept.1 s (parts_of kept.2) (words_of kept.2) at, refl, refl, (λ k p is value. (words.claims.each id w there k is).imaged p value), counted),
         )
 
   -- A load of the event word, by which the pass sees the whole log.

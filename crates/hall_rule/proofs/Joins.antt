@@ -1,5 +1,5 @@
 -- A pass that takes in another's numbers, entries and hands keeps the invariant.
-use Rattle.std.proofs.Common.{◌≡◌, ◌≢◌, ℕ, ◌+◌, ◌*◌, ◌^◌, ◌<◌, ◌≤◌, ltb, Bool, true, false, cond, List, [], ◌∷◌, ◌++◌, Option, length, drop, set, refl, sym, ap, subst, ◌∙◌, ⊎_elim, true≢false, append-nil, length-append, length-set, ltb-false, ltb-true, arith}
+use Rattle.std.proofs.Common.{◌≡◌, ◌≢◌, ℕ, ◌+◌, ◌*◌, ◌^◌, ◌<◌, ◌≤◌, ltb, Bool, true, false, cond, List, [], ◌∷◌, ◌++◌, Option, Some, length, drop, set, refl, sym, ap, subst, ◌∙◌, ⊎_elim, true≢false, append-nil, length-append, length-set, ltb-false, ltb-true, arith}
 use Rattle.std.specs.Prelude.{slice_index}
 use mathlib.Core.Option as maybe
 use lib.ListN.{get_elem?}
@@ -276,6 +276,26 @@ module _ {P E T F : Type 0} (M : Meaning P E T F) where
       tied = a.tied;
     }
 
+    abbrev Owner : ℕ → Type 0
+    Owner q = (x : View E) × (get_elem? views (session q) ≡ maybe.some x) × (x.spent ≡ false) × (has q x.sessions ≡ true)
+
+    -- a transaction of either pass is in the joined view
+    owned : (q : ℕ) (t : T) → M.transaction (replay M log) q ≡ Some t → Owner q
+    owned q t open' =
+        let h = kept.lawful.owned q t open' in
+        bool_cases (has q u.sessions) (Owner q)
+        (λ theirs. (both, ap (λ c. get_elem? views (cond c id (o.session q))) theirs ∙ here, live, has_right q v.sessions u.sessions theirs))
+        (λ not_theirs.
+        let is : session q ≡ o.session q = ap (λ c. cond c id (o.session q)) not_theirs in
+        by_cases (o.session q) id (Owner q)
+        (λ e.
+        let same : h.0 ≡ v = maybe.some-injective h.0 v (sym h.1 ∙ (ap (get_elem? s.views) e ∙ at)) in
+        (both, ap (get_elem? views) (is ∙ e) ∙ here, live, has_left q v.sessions u.sessions (ap (λ (x : View E). has q x.sessions) (sym same) ∙ h.3)))
+        (λ ne.
+        let away : o.session q ≢ other = λ e.
+        true≢false (sym h.3 ∙ (ap (λ (x : View E). has q x.sessions) (maybe.some-injective h.0 u (sym h.1 ∙ (ap (get_elem? s.views) e ∙ there))) ∙ not_theirs)) in
+        (h.0, ap (get_elem? views) is ∙ (set_else (set s.views id both) other (o.session q) spent_view away ∙ (set_else s.views id (o.session q) both ne ∙ h.1)), h.2, h.3)))
+
     all_views : (B : View E → Type 0) → B both → B spent_view → ((j : ℕ) (x : View E) → get_elem? s.views j ≡ maybe.some x → B x) → (j : ℕ) (x : View E) → get_elem? views j ≡ maybe.some x → B x
     all_views B a b others j x found = ⊎_elim
         (λ t. subst B t.1 b)
@@ -314,6 +334,7 @@ module _ {P E T F : Type 0} (M : Meaning P E T F) where
         begins = kept.lawful.begins;
         lawful = kept.lawful.lawful;
         each = each (OwnsSessions M log o.session) (OwnsSessions M log session) kept.lawful.each sessions_else sessions_both;
+        owned = owned;
       };
       facts = record {
         each = each (λ j x. (f : F) → M.fact f (replay M x.log) → M.fact f (replay M log)) (λ j x. (f : F) → M.fact f (replay M x.log) → M.fact f (replay M log)) kept.facts.each (λ j x ne away h. h)

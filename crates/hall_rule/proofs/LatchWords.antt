@@ -1,12 +1,12 @@
 -- The steps by which a part is taken and given leave what holds of the words of blocks.
-use Rattle.std.proofs.Common.{◌≡◌, ◌≢◌, ℕ, ◌<◌, ◌≤◌, false, List, Option, Some, length, set, get_or-set_same, get_or-set_other, refl, sym, ap, subst, ◌∙◌, ⊎_elim, length-set, arith}
+use Rattle.std.proofs.Common.{◌≡◌, ◌≢◌, ℕ, ◌<◌, ◌≤◌, false, List, Option, Some, length, set, get_or-set_same, get_or-set_other, refl, sym, ap, subst, ◌∙◌, inl, ⊎_elim, length-set, arith}
 use Rattle.std.specs.Prelude.{slice_get, slice_index}
 use mathlib.Core.Option as maybe
 use lib.ListN.{get_elem?}
 use Rattle.atomic_table.specs.Table.{State}
 use Rattle.hall_rule.specs.EventLog.{replay}
 use Rattle.hall_rule.specs.HallInvariant.{Follows, Owners, WearsWords, block_word, head_at, latch_word, stage, worn_by}
-use Rattle.hall_rule.specs.Heads.{IsFrozen, head_in}
+use Rattle.hall_rule.specs.Heads.{IsFrozen, MayTurn, head_in}
 use Rattle.hall_rule.specs.Meaning.{Meaning}
 use Rattle.hall_rule.specs.Views.{given, loaded, staged}
 use Rattle.hall_rule.specs.declared.view.Entry.{Entry}
@@ -63,6 +63,9 @@ module _ {P E T F : Type 0} (M : Meaning P E T F) (log : List (Entry E)) (o : Ow
           worn = λ i two. by_cases i k (head_at words i ≡ worn_by v i)
               (λ e. absurd (let h = subst (λ (x : ℕ). stage w x ≡ 2) e two in omega (arith, h, here)))
               (λ ne. head i ∙ old.worn i (sym (else i ne) ∙ two));
+          near = λ i p two. by_cases i k (slice_get (replay M log) i ≡ Some p → MayTurn (worn_by v i) (M.head p))
+              (λ e. absurd (let h = subst (λ (x : ℕ). stage w x ≡ 2) e two in omega (arith, h, here)))
+              (λ ne. old.near i p (sym (else i ne) ∙ two));
           frozen = λ i p two. by_cases i k (IsFrozen (worn_by v i) → slice_get (replay M log) i ≡ Some p → M.head p ≡ worn_by v i)
               (λ e. absurd (let h = subst (λ (x : ℕ). stage w x ≡ 2) e two in omega (arith, h, here)))
               (λ ne. old.frozen i p (sym (else i ne) ∙ two));
@@ -101,6 +104,9 @@ module _ {P E T F : Type 0} (M : Meaning P E T F) (log : List (Entry E)) (o : Ow
           worn = λ i two. by_cases i k (head_at s.words i ≡ worn_by w i)
               (λ e. subst (λ (x : ℕ). head_at s.words x ≡ worn_by w x) (sym e) (old.taken k one p there ∙ sym worn_here))
               (λ ne. old.worn i (sym (else i ne) ∙ two) ∙ sym (worn_else i ne));
+          near = λ i p' two is. by_cases i k (MayTurn (worn_by w i) (M.head p'))
+              (λ e. inl (ap M.head (one_part (replay M log) k p' p (subst (λ (x : ℕ). slice_get (replay M log) x ≡ Some p') e is) there) ∙ (sym worn_here ∙ ap (worn_by w) (sym e))))
+              (λ ne. subst (λ (h : ℕ). MayTurn h (M.head p')) (sym (worn_else i ne)) (old.near i p' (sym (else i ne) ∙ two) is));
           frozen = λ i p' two frozen is. by_cases i k (M.head p' ≡ worn_by w i)
               (λ e. ap M.head (one_part (replay M log) k p' p (subst (λ (x : ℕ). slice_get (replay M log) x ≡ Some p') e is) there) ∙ (sym worn_here ∙ ap (worn_by w) (sym e)))
               (λ ne. old.frozen i p' (sym (else i ne) ∙ two) (subst IsFrozen (worn_else i ne) frozen) is ∙ sym (worn_else i ne));
@@ -137,6 +143,7 @@ module _ {P E T F : Type 0} (M : Meaning P E T F) (log : List (Entry E)) (o : Ow
         own = record {
           taken = λ i first p' is. let ne : i ≢ k = away i (λ z. absurd (omega (arith, z, first))) in head i ∙ old.taken i (sym (else i ne) ∙ first) p' is;
           worn = λ i first. let ne : i ≢ k = away i (λ z. absurd (omega (arith, z, first))) in head i ∙ old.worn i (sym (else i ne) ∙ first);
+          near = λ i p' first. let ne : i ≢ k = away i (λ z. absurd (omega (arith, z, first))) in old.near i p' (sym (else i ne) ∙ first);
           frozen = λ i p' first. let ne : i ≢ k = away i (λ z. absurd (omega (arith, z, first))) in old.frozen i p' (sym (else i ne) ∙ first);
           room = old.room ∙ sym (length-set v.stages k 0);
           stages = λ i. by_cases i k (stage w i ≤ 2) (λ e. let h = subst (λ (x : ℕ). stage w x ≡ 0) (sym e) here in omega (arith, h)) (λ ne. let h = else i ne in let l = old.stages i in omega (arith, h, l));
@@ -165,7 +172,7 @@ module _ {P E T F : Type 0} (M : Meaning P E T F) (log : List (Entry E)) (o : Ow
         word = λ i. refl;
         latch = λ i below before now. refl;
         free = λ i below held none'. absurd (let y = ((kept.at_home.each id v at live).holds i (⊎_elim (λ a. a) (λ a. a) held)).1 in omega (arith, y, none'));
-        own = record { taken = old.taken; worn = old.worn; frozen = old.frozen; room = old.room; stages = old.stages };
+        own = record { taken = old.taken; worn = old.worn; near = old.near; frozen = old.frozen; room = old.room; stages = old.stages };
         claim = refl;
         claimed = refl;
         bump = refl;

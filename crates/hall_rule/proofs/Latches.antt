@@ -217,7 +217,7 @@ module _ {P E T F : Type 0} (M : Meaning P E T F) (laws : Laws M) where
                 (both (stirred M laws log held.1 held.1.part s s.words (set s.homes (slot_of k) maybe.none) id v (loaded v k head log) kept at live (loading head log held.1 s kept at one none_out))
                 (loading_words M log held.1 s (set s.homes (slot_of k) maybe.none) id v k kept (words_of held.2) at live lt room home.0 one home.1)),
           ),
-          (log, home.0, learns log held.1 s id v kept (words_of held.2) at live, home.1, refl, refl),
+          (log, home.0, learns log held.1 s id v kept (words_of held.2) at live, home.1, refl, refl, kept.one_log.counted),
         )
 
     -- One slot changes whose part is in the view's hand, and nothing else but what is out.

@@ -1,5 +1,5 @@
 -- The table that a hall begins with keeps the invariant.
-use Rattle.std.proofs.Common.{◌≡◌, ℕ, zero, suc, ◌+◌, ◌*◌, ◌^◌, ◌<◌, ◌≤◌, true, List, [], ◌∷◌, ◌++◌, Option, Some, length, map, refl, sym, ap, subst, ◌∙◌, length-append, true≢false, ⊎_elim, arith}
+use Rattle.std.proofs.Common.{◌≡◌, ℕ, zero, suc, ◌+◌, ◌*◌, ◌^◌, ◌<◌, ◌≤◌, true, List, [], ◌∷◌, ◌++◌, Option, None, Some, length, map, refl, sym, ap, subst, ◌∙◌, length-append, true≢false, ⊎_elim, arith}
 use Rattle.std.specs.Prelude.{replicate, slice_get, slice_index}
 use mathlib.Core.Option as maybe
 use lib.ListN.{get_elem?}
@@ -64,7 +64,7 @@ pub sessions_to-distinct : (n : ℕ) → Distinct (sessions_to n)
 sessions_to-distinct zero = tt
 sessions_to-distinct (suc n) = distinct_append (sessions_to n) (suc n ∷ []) (sessions_to-distinct n) (refl, tt) (λ q a b. ⊎_elim (λ e. absurd (let r = below_to n q a in omega (arith, r, e))) (λ z. true≢false (sym z)) (has_cons q (suc n) [] b))
 
-module _ {P E T F : Type 0} (M : Meaning P E T F) (begins : M.sound M.start) (some' : 1 ≤ M.passes) (limit : M.passes ≤ 128)
+module _ {P E T F : Type 0} (M : Meaning P E T F) (begins : M.sound M.start) (rests : (q : ℕ) → M.transaction M.start q ≡ None) (some' : 1 ≤ M.passes) (limit : M.passes ≤ 128)
     (words : List ℕ) (wide : length words ≡ latch_word (length M.start)) (zero' : (k : ℕ) → slice_index words k ≡ 0) where
   -- The table that the hall begins with: all parts in it, and the first view.
   abbrev at_first : State (Option P) (View E)
@@ -117,6 +117,7 @@ module _ {P E T F : Type 0} (M : Meaning P E T F) (begins : M.sound M.start) (so
       begins = begins;
       lawful = tt;
       each = λ j v there live. alone (OwnsSessions M [] owners.session) (record { sessions = λ q h. refl; distinct = sessions_to-distinct M.passes; spared = λ q h. tt; transactions = λ q h. refl; stood = λ q was h. tt; came = λ q was h. tt; tied = record { within = λ q h. (above_to M.passes q h, below_to M.passes q h); named = tt; alone = λ q is h. tt } }) j v there;
+      owned = λ q t open'. absurd (let e : None ≡ Some t = sym (rests q) ∙ open' in cc);
     };
     facts = record { each = λ j v there live. alone (λ i u. (f : F) → M.fact f (replay M u.log) → M.fact f (replay M [])) (λ f h. h) j v there };
     hands = record {

@@ -47,6 +47,7 @@ module _ {P E T F : Type 0} (M : Meaning P E T F) (cold : (k : ℕ) (p : P) → 
       each = λ j v there alive. subst (WearsWords M [] words j) (only first v j there) (record {
         taken = λ k one. absurd (let z = none_held k in omega (arith, z, one));
         worn = λ k two. absurd (let z = none_held k in omega (arith, z, two));
+        near = λ k p two. absurd (let z = none_held k in omega (arith, z, two));
         frozen = λ k p two. absurd (let z = none_held k in omega (arith, z, two));
         room = refl;
         stages = λ k. let z = none_held k in omega (arith, z);
@@ -97,10 +98,11 @@ module _ {P E T F : Type 0} (M : Meaning P E T F) (log : List (Entry E)) (s : St
       words = record {
         free = b.words.free;
         each = on_all (λ j u. u.spent ≡ false → WearsWords M log s.words j u) b.words.each
-            (λ alive. let w = b.words.each id v at live in record { taken = w.taken; worn = w.worn; frozen = w.frozen; room = w.room; stages = w.stages })
+            (λ alive. let w = b.words.each id v at live in record { taken = w.taken; worn = w.worn; near = w.near; frozen = w.frozen; room = w.room; stages = w.stages })
             (λ j alive. record {
               taken = λ k one. absurd (let z = right_held k in omega (arith, z, one));
               worn = λ k two. absurd (let z = right_held k in omega (arith, z, two));
+              near = λ k p two. absurd (let z = right_held k in omega (arith, z, two));
               frozen = λ k p two. absurd (let z = right_held k in omega (arith, z, two));
               room = ap (λ n. length {A = ℕ} (replicate n 0)) (b.words.each id v at live).room;
               stages = λ k. let z = right_held k in omega (arith, z);
@@ -158,7 +160,7 @@ module _ {P E T F : Type 0} (M : Meaning P E T F) (log : List (Entry E)) (s : St
       words = record {
         free = b.words.free;
         each = on_joined (λ j x. x.spent ≡ false → WearsWords M log s.words j x) b.words.each
-            (λ alive. let w = b.words.each id v at live in record { taken = w.taken; worn = w.worn; frozen = w.frozen; room = w.room; stages = w.stages })
+            (λ alive. let w = b.words.each id v at live in record { taken = w.taken; worn = w.worn; near = w.near; frozen = w.frozen; room = w.room; stages = w.stages })
             (λ alive. absurd (Rattle.std.proofs.Common.true≢false alive));
       };
       readers = record {

@@ -1,10 +1,10 @@
 -- A new pass, which has seen what another has and takes some of its hands, keeps the invariant.
-use Rattle.std.proofs.Common.{◌≡◌, ◌≢◌, ℕ, zero, suc, ◌+◌, ◌*◌, ◌^◌, ◌<◌, ◌≤◌, eqb, true, false, cond, List, [], ◌∷◌, ◌++◌, Option, length, set, refl, sym, ap, subst, ◌∙◌, ◌⊎◌, inl, inr, ⊎_elim, true≢false, length-append, length-set, eq-eqb, ne_eqb, arith}
+use Rattle.std.proofs.Common.{◌≡◌, ◌≢◌, ℕ, zero, suc, ◌+◌, ◌*◌, ◌^◌, ◌<◌, ◌≤◌, eqb, true, false, cond, List, [], ◌∷◌, ◌++◌, Option, Some, length, set, refl, sym, ap, subst, ◌∙◌, ◌⊎◌, inl, inr, ⊎_elim, true≢false, length-append, length-set, eq-eqb, ne_eqb, arith}
 use Rattle.std.specs.Prelude.{slice_index}
 use mathlib.Core.Option as maybe
 use lib.ListN.{get_elem?}
 use Rattle.atomic_table.specs.Table.{State}
-use Rattle.atomic_table.proofs.Lists.{at_longer, at_set, set_else, set_here}
+use Rattle.atomic_table.proofs.Lists.{at_last, at_longer, at_set, set_else, set_here}
 use Rattle.hall_rule.specs.EventLog.{Distinct, MadeBelow, has, is_unnamed, own, replay}
 use Rattle.hall_rule.specs.HallInvariant.{EachLive, HoldsParts, Owners, OwnsSessions, SeesLog, entries_of, hands_of, latch_word, since, stage}
 use Rattle.hall_rule.specs.Meaning.{Meaning}
@@ -12,7 +12,7 @@ use Rattle.hall_rule.specs.Views.{newcomer}
 use Rattle.hall_rule.specs.declared.view.Entry.{Entry}
 use Rattle.hall_rule.specs.declared.view.View.{View}
 use Rattle.hall_rule.proofs.Named.{fresh_is, none_only}
-use Rattle.hall_rule.proofs.Lists.{at_below, by_cases, each_set, not_true, total_set, total_snoc}
+use Rattle.hall_rule.proofs.Lists.{at_below, bool_cases, by_cases, each_set, not_true, total_set, total_snoc}
 use Rattle.hall_rule.proofs.Logs.{made_more}
 use Rattle.hall_rule.proofs.Numbers.{has_cons}
 use Rattle.hall_rule.proofs.Opens.{zeros}
@@ -41,7 +41,7 @@ module _ {E : Type 0} where
 module _ {P E T F : Type 0} (M : Meaning P E T F) (log : List (Entry E)) (o : Owners) (s : State (Option P) (View E)) (kept : PartsHold M log o s) (id : ℕ) (v : View E)
     (at : get_elem? s.views id ≡ maybe.some v) (live : v.spent ≡ false) (ls rs : List ℕ)
     (in_left : (q : ℕ) → has q ls ≡ true → has q v.sessions ≡ true) (in_right : (q : ℕ) → has q rs ≡ true → has q v.sessions ≡ true)
-    (apart : (q : ℕ) → has q ls ≡ true → has q rs ≡ true → ⊥) (distinct_left : Distinct ls) (distinct_right : Distinct rs)
+    (whole : (q : ℕ) → has q v.sessions ≡ true → (has q ls ≡ true) ⊎ (has q rs ≡ true)) (apart : (q : ℕ) → has q ls ≡ true → has q rs ≡ true → ⊥) (distinct_left : Distinct ls) (distinct_right : Distinct rs)
     (count : length ls + length rs ≤ length v.sessions) (few : length v.mine ≤ 2 ^ 56 * length ls) (idle : length ls ≡ 0 → (k : ℕ) → stage v k ≡ 0) where
   -- The view of the old pass after the split, with the sessions that it keeps.
   abbrev left : View E
@@ -148,6 +148,27 @@ module _ {P E T F : Type 0} (M : Meaning P E T F) (log : List (Entry E)) (o : Ow
     tied = a.tied;
   }
 
+  abbrev Owner : ℕ → Type 0
+  Owner q = (u : View E) × (get_elem? views (session q) ≡ maybe.some u) × (u.spent ≡ false) × (has q u.sessions ≡ true)
+
+  -- A transaction of the old pass is in one of the two views.
+  owned : (q : ℕ) (t : T) → M.transaction (replay M log) q ≡ Some t → Owner q
+  owned q t open' =
+      let h = kept.lawful.owned q t open' in
+      bool_cases (has q rs) (Owner q)
+      (λ new. (right, ap (λ c. get_elem? views (cond c n (o.session q))) new ∙ at_last (set s.views id left) right n (length-set s.views id left), refl, new))
+      (λ old.
+      let is : session q ≡ o.session q = ap (λ c. cond c n (o.session q)) old in
+      by_cases (o.session q) id (Owner q)
+      (λ e.
+      let same : h.0 ≡ v = maybe.some-injective h.0 v (sym h.1 ∙ (ap (get_elem? s.views) e ∙ at)) in (
+        left,
+        ap (get_elem? views) (is ∙ e) ∙ at_longer (set s.views id left) (right ∷ []) id left (set_here s.views id left (at_below s.views id v at)),
+        live,
+        ⊎_elim (λ a. a) (λ b. absurd (true≢false (sym b ∙ old))) (whole q (ap (λ (u : View E). has q u.sessions) (sym same) ∙ h.3)),
+      ))
+      (λ ne. (h.0, ap (get_elem? views) is ∙ at_longer (set s.views id left) (right ∷ []) (o.session q) h.0 (set_else s.views id (o.session q) left ne ∙ h.1), h.2, h.3)))
+
   -- What holds of the two passes and of each view before the split holds of each after it.
   all_views : (B : View E → Type 0) → B left → B right → ((j : ℕ) (u : View E) → get_elem? s.views j ≡ maybe.some u → B u) → (j : ℕ) (u : View E) → get_elem? views j ≡ maybe.some u → B u
   all_views B here there others j u found = ⊎_elim
@@ -207,6 +228,7 @@ module _ {P E T F : Type 0} (M : Meaning P E T F) (log : List (Entry E)) (o : Ow
               alone = λ q is h. let f = fresh_is v rs q is in none_only q (id ∷ v.joined) (n ∷ []) log (sessions.tied.alone q f.0 (in_right q h)) (ap (is_unnamed q) mine.mine ∙ f.1);
             };
           });
+      owned = owned;
     };
     facts = record {
       each = each (λ j u. (f : F) → M.fact f (replay M u.log) → M.fact f (replay M log)) (λ j u. (f : F) → M.fact f (replay M u.log) → M.fact f (replay M log)) kept.facts.each (λ j u ne there alive h. h)

@@ -10,7 +10,7 @@ use Rattle.atomic_table.specs.Table.{Allows, State}
 use Rattle.atomic_table.specs.Table.Act.{keeps}
 use Rattle.hall_rule.specs.EventLog.{replay}
 use Rattle.hall_rule.specs.HallInvariant.{Claims, Drains, HallInvariant, Owners, WearsWords, block_word, hands_of, head_at, latch_word, readers_at, readers_of, readers_on, stage, total_of, worn_by}
-use Rattle.hall_rule.specs.Heads.{IsFrozen, IsHot, head_in, readers_in}
+use Rattle.hall_rule.specs.Heads.{IsFrozen, IsHot, MayTurn, head_in, readers_in}
 use Rattle.hall_rule.specs.Meaning.{Laws, Meaning}
 use Rattle.hall_rule.specs.Rule.{Rule}
 use Rattle.hall_rule.specs.Views.{Enters, bumped, claimed, emptied, entered, left, turned}
@@ -172,6 +172,7 @@ module _ {P E T F : Type 0} (M : Meaning P E T F) (laws : Laws M) (slots id : �
               own = record {
                 taken = λ k first p is. head_same k ∙ old_wears.taken k first p is;
                 worn = λ k two. head_same k ∙ old_wears.worn k two;
+                near = old_wears.near;
                 frozen = old_wears.frozen;
                 room = old_wears.room;
                 stages = old_wears.stages;
@@ -203,7 +204,7 @@ module _ {P E T F : Type 0} (M : Meaning P E T F) (laws : Laws M) (slots id : �
 
     module _ (two : stage v i ≡ 2) (same : readers_in n ≡ readers_at s.words i) (head : ℕ) (is_head : head_in n ≡ head)
         (claims : (j : ℕ) (u : View E) → get_elem? s.views j ≡ maybe.some u → u.claim ≡ suc i → Claims M log s.words u i → (head ≡ u.claimed) ⊎ (head + 3 * 2 ^ 30 ≡ u.claimed))
-        (frozen : (p : P) → IsFrozen head → slice_get (replay M log) i ≡ Some p → M.head p ≡ head) where
+        (near : (p : P) → slice_get (replay M log) i ≡ Some p → MayTurn head (M.head p)) (frozen : (p : P) → IsFrozen head → slice_get (replay M log) i ≡ Some p → M.head p ≡ head) where
       abbrev w' : View E
       w' = turned v i head
 
@@ -255,6 +256,9 @@ module _ {P E T F : Type 0} (M : Meaning P E T F) (laws : Laws M) (slots id : �
           worn = λ k also. by_cases k i (head_at words k ≡ worn_by w' k)
               (λ e. subst (λ (x : ℕ). head_at words x ≡ worn_by w' x) (sym e) (head_now ∙ sym worn_here))
               (λ ne. head_else k ne ∙ (old_wears.worn k also ∙ sym (worn_else k ne)));
+          near = λ k p also is. by_cases k i (MayTurn (worn_by w' k) (M.head p))
+              (λ e. subst (λ (x : ℕ). MayTurn (worn_by w' x) (M.head p)) (sym e) (subst (λ (h : ℕ). MayTurn h (M.head p)) (sym worn_here) (near p (ap (slice_get (replay M log)) (sym e) ∙ is))))
+              (λ ne. subst (λ (h : ℕ). MayTurn h (M.head p)) (sym (worn_else k ne)) (old_wears.near k p also is));
           frozen = λ k p also cold is. by_cases k i (M.head p ≡ worn_by w' k)
               (λ e. subst (λ (x : ℕ). M.head p ≡ worn_by w' x) (sym e) (frozen p (subst IsFrozen (ap (worn_by w') e ∙ worn_here) cold) (ap (slice_get (replay M log)) (sym e) ∙ is) ∙ sym worn_here))
               (λ ne. old_wears.frozen k p also (subst IsFrozen (worn_else k ne) cold) is ∙ sym (worn_else k ne));
@@ -428,6 +432,7 @@ module _ {P E T F : Type 0} (M : Meaning P E T F) (laws : Laws M) (slots id : �
               (λ e. let q : worn_by v i ≡ u.claimed = sym worn ∙ e in omega (arith, q, low, high))
               (λ e. absurd (let f = c.frozen.1 in omega (arith, worn, e, low, high, f)))
               c.word))
+              (λ p is. let same = (b.words.each id v at live).frozen i p two frozen is in inr (inr (omega arith, omega (arith, same, low, high))))
               (λ p cold is. absurd (let c = cold.0 in omega (arith, c)))),
         ),
         (refl, refl, worn),
@@ -455,6 +460,7 @@ module _ {P E T F : Type 0} (M : Meaning P E T F) (laws : Laws M) (slots id : �
           both (block_kept M laws slots id v i live lt log held.1 s kept b at (f n) (set v.worn i (M.head p)) 0 v.claim v.claimed v.bump v.found)
               (turn_words M laws slots id v i live lt log held.1 s kept b at (f n) two t.1 (M.head p) t.0
               (λ j u found is c. inl (c.imaged p there))
+              (λ q is. inl (ap M.head (one_part (replay M log) i q p is there)))
               (λ q cold is. ap M.head (one_part (replay M log) i q p is there))),
         ),
         (refl, refl, worn),
@@ -493,7 +499,7 @@ module _ {P E T F : Type 0} (M : Meaning P E T F) (laws : Laws M) (slots id : �
             heads = λ k away. refl;
             latch = λ k below before now. refl;
             free = λ k below held none''. absurd (let x = ((kept.at_home.each id v at live).holds k (⊎_elim (λ a. a) (λ a. a) held)).1 in omega (arith, x, none''));
-            own = record { taken = old.taken; worn = old.worn; frozen = old.frozen; room = old.room; stages = old.stages };
+            own = record { taken = old.taken; worn = old.worn; near = old.near; frozen = old.frozen; room = old.room; stages = old.stages };
             claims = λ j u else there k is x. x;
             claim = λ k is. let x = b.claims.each id v at k is in record { below = x.below; frozen = x.frozen; imaged = x.imaged; word = x.word };
             fresh = λ j u else there alive k is d. d.alone id v at;

@@ -55,6 +55,7 @@ module _ {P E T F : Type 0} (M : Meaning P E T F) where
               let none = away k (λ e. absurd (omega (arith, one, e))) in
               q.heads k none ∙ old.taken k one p (sym (q.parts k none) ∙ is);
           worn = λ k two. q.heads k (away k (λ e. absurd (omega (arith, two, e)))) ∙ old.worn k two;
+          near = λ k p two is. old.near k p two (sym (q.parts k (away k (λ e. absurd (omega (arith, two, e))))) ∙ is);
           frozen = λ k p two frozen is. old.frozen k p two frozen (sym (q.parts k (away k (λ e. absurd (omega (arith, two, e))))) ∙ is);
           room = old.room;
           stages = old.stages;

@@ -10,7 +10,7 @@ use lib.ListN.{get_elem?}
 use Rattle.atomic_table.specs.Table.{State}
 use Rattle.hall_rule.specs.EventLog.{Distinct, LawfulFrom, MadeBelow, Spares, Tied, Untouched, has}
 use Rattle.hall_rule.specs.EventLog.{own, replay}
-use Rattle.hall_rule.specs.Heads.{IsFrozen, IsHot, head_in, readers_in}
+use Rattle.hall_rule.specs.Heads.{IsFrozen, IsHot, MayTurn, head_in, readers_in}
 use Rattle.hall_rule.specs.Meaning.{Meaning}
 use Rattle.hall_rule.specs.Slots.{slot_of}
 use Rattle.hall_rule.specs.declared.view.Entry.{Entry}
@@ -129,7 +129,9 @@ module _ {P E T F : Type 0} (M : Meaning P E T F) (log : List (Entry E)) where
   -- ever took. Until the event word is loaded it is at home. From then on no entry that the view
   -- has not seen changes it, nor one since the last call that changed the hand; and its value is in
   -- the hand, or out on the way there or back.
-  pub record HoldsParts (part : ℕ → ℕ) (words : List ℕ) (homes : List (maybe.Option (Option P))) (j : ℕ) (v : View E) : Type 0 where
+  pub record HoldsParts
+      (part : ℕ → ℕ) (words : List ℕ) (homes : List (maybe.Option (Option P))) (j : ℕ) (v : View E)
+      : Type 0 where
     pub holds : (k : ℕ) → stage v k ≢ 0 → (k < length M.start)
         × (slice_index words (latch_word k) ≡ 1) × (part k ≡ j)
     pub taken : (k : ℕ) → stage v k ≡ 1 → AtHome homes k
@@ -168,11 +170,15 @@ module _ {P E T F : Type 0} (M : Meaning P E T F) (log : List (Entry E)) where
         → Spares M q (drop (length v.heard) log)
     pub tied : Tied M.passes (j ∷ v.joined) v.sessions v.sole log
 
-  -- The log is lawful, and each transaction is in one view.
+  -- The log is lawful, and each transaction that it leaves is in exactly one view: that of the seat
+  -- of its session.
   pub record LawfulLog (owners : Owners) (s : State (Option P) (View E)) : Type 0 where
     pub begins : M.sound M.start
     pub lawful : LawfulFrom M M.start log
     pub each : EachLive (OwnsSessions owners.session) s.views
+    pub owned : (q : ℕ) (t : T) → M.transaction (replay M log) q ≡ Some t → (v : View E)
+        × (get_elem? s.views (owners.session q) ≡ maybe.some v) × (v.spent ≡ false)
+        × (has q v.sessions ≡ true)
 
   -- What a view learned holds of what the log leaves.
   pub record LastingFacts (s : State (Option P) (View E)) : Type 0 where
@@ -195,11 +201,13 @@ module _ {P E T F : Type 0} (M : Meaning P E T F) (log : List (Entry E)) where
   Follows words k = (p : P) → slice_get (replay M log) k ≡ Some p → head_at words k ≡ M.head p
 
   -- The words of the parts that a view holds follow the parts until the event word is loaded; from
-  -- then on they have the heads that the view knows. One that is frozen follows its part, whatever
-  -- the view has still to do.
+  -- then on they have the heads that the view knows, and may be turned to those of their parts. One
+  -- that is frozen follows its part, whatever the view has still to do.
   pub record WearsWords (words : List ℕ) (j : ℕ) (v : View E) : Type 0 where
     pub taken : (k : ℕ) → stage v k ≡ 1 → Follows words k
     pub worn : (k : ℕ) → stage v k ≡ 2 → head_at words k ≡ worn_by v k
+    pub near : (k : ℕ) (p : P) → stage v k ≡ 2 → slice_get (replay M log) k ≡ Some p
+        → MayTurn (worn_by v k) (M.head p)
     pub frozen : (k : ℕ) (p : P) → stage v k ≡ 2 → IsFrozen (worn_by v k)
         → slice_get (replay M log) k ≡ Some p → M.head p ≡ worn_by v k
     pub room : length v.worn ≡ length v.stages

@@ -259,11 +259,12 @@ module _ {P E T F : Type 0} (M : Meaning P E T F) where
   abbrev pub Latches : View E → ℕ → ℕ → Me (Option P) (View E) → Type 0
   Latches v k n me = (me.0 ≡ cond (n == 0) (staged v k 1) v) × (me.1 ≡ [])
 
-  -- The log was seen, and the part k, as it leaves it, is out.
+  -- The log was seen, which is as long as the number that the load found, and the part k, as it
+  -- leaves it, is out.
   abbrev pub Loads : ℕ → View E → ℕ → ℕ → Me (Option P) (View E) → Type 0
   Loads id v k n me = (log : List (Entry E)) × (p : P) × Learned id v log
       × (slice_get (replay M log) k ≡ Some p) × (me.0 ≡ loaded v k (M.head p) log)
-      × (me.1 ≡ (slot_of k, Some p) ∷ [])
+      × (me.1 ≡ (slot_of k, Some p) ∷ []) × (n ≡ length log)
 
   -- The slot that was out is home.
   abbrev pub Homes : View E → ℕ → Me (Option P) (View E) → Type 0
@@ -277,10 +278,11 @@ module _ {P E T F : Type 0} (M : Meaning P E T F) where
   abbrev pub Gives : View E → ℕ → ℕ → Me (Option P) (View E) → Type 0
   Gives v k n me = (me.0 ≡ given v k) × (me.1 ≡ [])
 
-  -- The log was seen, and an event is its last entry now.
+  -- The log was seen, which was as long as the number that was found, and an event is its last
+  -- entry now.
   abbrev pub Adds : ℕ → View E → Entry E → ℕ → Me (Option P) (View E) → Type 0
   Adds id v e n me = (before : List (Entry E)) × Learned id v before × (me.0 ≡ added v before e)
-      × (me.1 ≡ []) × KeepsClaim v (before ++ e ∷ [])
+      × (me.1 ≡ []) × KeepsClaim v (before ++ e ∷ []) × (n ≡ length before)
 
   -- The log was looked at: it is as long as the number that the load found.
   abbrev pub Sees : ℕ → View E → ℕ → Me (Option P) (View E) → Type 0

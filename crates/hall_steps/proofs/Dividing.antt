@@ -318,6 +318,7 @@ module _ {P E T F : Type 0} (M : Meaning P E T F) where
           theirs = l.heard;
           stood = stays M laws v.sessions v.log log l.begins l.before l.lawful (λ q h. l.stood q h (has_left q v.sessions u.sessions h));
           came = stays M laws u.sessions u.log log l.begins l.heard l.lawful (λ q h. l.came q h (has_right q v.sessions u.sessions h));
+          parts = l.kept;
           taken = refl;
           reads = (refl, refl);
         }),

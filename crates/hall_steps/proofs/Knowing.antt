@@ -1,27 +1,25 @@
 -- What a pass knows after a take, a give and an event.
-use Rattle.std.proofs.Common.{◌≡◌, ◌≢◌, ℕ, zero, suc, ◌+◌, ◌*◌, ◌%◌, ◌^◌, ◌<◌, ◌≤◌, Bool, true, false, cond, List, [], ◌∷◌, ◌++◌, Option, None, Some, length, set, get_or-set_same, get_or-set_other, refl, sym, ap, subst, ◌∙◌, ◌⊎◌, inl, inr, ⊎_elim, length-set, length-append, arith}
+use Rattle.std.proofs.Common.{◌≡◌, ◌≢◌, ℕ, zero, suc, ◌+◌, ◌*◌, ◌^◌, ◌<◌, Bool, true, false, cond, List, [], ◌∷◌, ◌++◌, Option, None, Some, length, set, get_or-set_same, get_or-set_other, refl, sym, ap, subst, ◌∙◌, ◌⊎◌, inl, inr, ⊎_elim, length-set, length-append, arith}
 use Rattle.std.specs.Prelude.{MatchBool, slice_get, slice_index}
 use Rattle.std.proofs.lemmas.Option.{slice_get_within}
 use Rattle.atomic_table.specs.Table.{Me}
 use Rattle.hall_rule.specs.EventLog.{after, has, own, replay}
 use Rattle.hall_rule.specs.HallInvariant.{hands_of, stage, worn_by}
 use Rattle.hall_rule.specs.Hands.{Agrees, Holds, SameRoom}
-use Rattle.hall_rule.specs.Meaning.{Laws, Meaning, meaning}
-use Rattle.hall_rule.specs.declared.parts.Parts.{Ghosts}
-use Rattle.hall_rule.specs.Views.{Adds, KeepsClaim, Learned, added, emptied, entry_of, given, homed, loaded, staged, turned}
+use Rattle.hall_rule.specs.Meaning.{Laws, Meaning}
+use Rattle.hall_rule.specs.Views.{KeepsClaim, Learned, added, given, homed, loaded, staged}
 use Rattle.hall_rule.specs.declared.view.Entry.{Entry}
 use Rattle.hall_rule.specs.declared.view.View.{View}
 use Rattle.hall_rule.proofs.EventWords.{there_is}
 use Rattle.hall_rule.proofs.Events.{Asks, stays_lawful}
 use Rattle.hall_rule.proofs.Latches.{stage_else, stage_here}
 use Rattle.hall_rule.proofs.Lists.{by_cases, get_set_else, get_set_here}
-use Rattle.hall_rule.proofs.Named.{least_there, named_append, only_append, only_mine}
+use Rattle.hall_rule.proofs.Named.{named_append, only_append, only_mine}
 use Rattle.hall_rule.proofs.Logs.{after_is, has_head, lawful_append, own_all, own_append, replay_append}
 use Rattle.atomic_table.specs.Seated.{TableId}
 use Rattle.atomic_table.specs.declared.shared.Seat.{Seat}
-use Rattle.hall_rule.specs.Heads.{IsFrozen, IsHot, MayTurn, TurnsOn}
-use Rattle.hall_rule.specs.declared.view.Found.{Found}
-use Rattle.hall_steps.specs.Hall.{EndsWith, Extends, IsOf, IsSameSeat, Knows, Looks, IsOfAt, LooksOn, Settled, thawed_by}
+use Rattle.hall_rule.specs.Heads.{IsHot, MayTurn, TurnsOn}
+use Rattle.hall_steps.specs.Hall.{EndsWith, Extends, IsOf, IsSameSeat, Knows, Looks, LooksOn, Settled, thawed_by}
 
 module _ {A : Type 0} where
   -- what two `Some` hold is the same
@@ -223,6 +221,16 @@ module _ {P E T F : Type 0} (M : Meaning P E T F) where
   at_rest : (id : ℕ) (me : Me (Option P) (View E)) (hand : List (Option P)) → Knows M id me hand → Knows M id (me.0, []) hand
   at_rest id me hand knows = subst (λ (cs : List (ℕ × Option P)). Knows M id (me.0, cs) hand) knows.none_out knows
 
+  -- A part that is held lies in the hand as the log leaves it.
+  pub held_there : (id : ℕ) (me : Me (Option P) (View E)) (hand : List (Option P)) → length hand ≡ length M.start → Knows M id me hand → (k : ℕ) (p : P) → stage me.0 k ≡ 2 → slice_get (replay M me.0.log) k ≡ Some p → slice_get hand k ≡ Some (Some p)
+  held_there id me hand room knows k p two there =
+      let lt = slice_get_within (replay M me.0.log) k p there in
+      let n = knows.room in
+      ⊎_elim
+      (λ e. absurd (let z = knows.away k (λ h. not_none h.0 ⊥ (some_is (Some h.0) None (sym h.1 ∙ e))) in omega (arith, z, two)))
+      (λ h. h.1 ∙ ap (λ (q : P). Some (Some q)) (some_is h.0 p (sym (knows.agrees k h.0 h.1) ∙ there)))
+      (place hand k (omega (arith, lt, n, room)))
+
   -- What a pass knows is known by the same number, of the same view and hand.
   known_at : (id id' : ℕ) (me me' : Me (Option P) (View E)) (hand hand' : List (Option P)) → id' ≡ id → me' ≡ me → hand' ≡ hand → Knows M id me hand → Knows M id' me' hand'
   known_at id id' me me' hand hand' a b c knows =
@@ -408,116 +416,3 @@ module _ {P E T F : Type 0} (M : Meaning P E T F) (laws : Laws M) where
   extends_on s t u before e x tu same =
       let y = x.1 in
       ((tu.0 ∙ x.0.0, tu.1 ∙ x.0.1), subst (λ (w : View E). EndsWith M s.id s.me.0 before e w) (sym same) (record { joined = y.joined; sessions = y.sessions; learned = y.learned; log = y.log; mine = y.mine; sole = y.sole; taken = y.taken; reads = y.reads }))
-
-  -- What a reader knows of its hand stands while it enters and leaves.
-  pub read_of : (z : TableId) (s t : Seat (Option P) (View E)) (hand : List (Option P)) (claim claimed bump : ℕ) (found : List Found) → IsOf M z s hand → IsSameSeat s t → bump ≡ 0 → claim ≤ length M.start → ((k : ℕ) (p : P) → claim ≡ suc k → slice_get (replay M s.me.0.log) k ≡ Some p → M.head p ≡ claimed)
-      → t.me ≡ (record s.me.0 { claim = claim; claimed = claimed; bump = bump; found = found }, []) → IsOf M z t hand
-  read_of z s t hand claim claimed bump found pass st none' claims imaged after' =
-      let k = at_rest M s.id s.me hand pass.1 in
-      let w : View E = record s.me.0 { claim = claim; claimed = claimed; bump = bump; found = found } in (
-        st.0 ∙ pass.0,
-        known_at M s.id t.id (w, []) t.me hand hand st.1 after' refl (record {
-          none_out = refl;
-          home = k.home;
-          live = k.live;
-          stages = k.stages;
-          begins = k.begins;
-          few_hands = k.few_hands;
-          sound = k.sound;
-          lawful = k.lawful;
-          mine = k.mine;
-          total = k.total;
-          distinct = k.distinct;
-          room = k.room;
-          agrees = k.agrees;
-          held = k.held;
-          away = k.away;
-          few = k.few;
-          budget = k.budget;
-          limit = k.limit;
-          tied = k.tied;
-          wide = k.wide;
-          no_bump = none';
-          claims = claims;
-          imaged = imaged;
-        }),
-        settled_at M 0 (w, []) t.me hand hand (ap (λ (m : Me (Option P) (View E)). m.0) after') refl (record { worn = pass.2.worn; hot = pass.2.hot; drained = pass.2.drained }),
-      )
-
-  -- A pass whose hand has a frozen part that is drained is about to thaw it.
-  pub drained_of : (z : TableId) (s t : Seat (Option P) (View E)) (hand : List (Option P)) (k : ℕ) (p : P) → IsOf M z s hand → k < length M.start → slice_get hand k ≡ Some (Some p) → IsFrozen (M.head p) → IsSameSeat s t
-      → t.me ≡ (emptied (turned s.me.0 k (worn_by s.me.0 k % 2 ^ 30)) k, []) → IsOfAt M (suc k) z t hand
-  drained_of z s t hand k p pass lt there frozen st after' =
-      let v = s.me.0 in
-      let h : ℕ = worn_by v k % 2 ^ 30 in
-      let w : View E = emptied (turned v k h) k in
-      let known = pass.1 in
-      let follows : worn_by v k ≡ M.head p = pass.2.worn k p (λ e. absurd (omega (arith, e))) there in
-      let wide = known.wide in
-      let here : worn_by w k ≡ h = get_or-set_same v.worn k h 0 (omega (arith, wide, lt)) in
-      let settled : Settled M (suc k) (w, []) hand = record {
-        worn = λ i q ne at. get_or-set_other v.worn k i h 0 (λ e. ne (ap suc e)) ∙ pass.2.worn i q (λ e. absurd (omega (arith, e))) at;
-        hot = λ i q is at.
-            let same : i ≡ k = omega (arith, is) in
-            let one : p ≡ q = some_is p q (some_is (Some p) (Some q) (sym there ∙ subst (λ (x : ℕ). slice_get hand x ≡ Some (Some q)) same at)) in
-            let head : M.head p ≡ M.head q = ap M.head one in
-            let worn : worn_by w i ≡ h = ap (worn_by w) same ∙ here in
-            let low = frozen.0 in
-            let high = frozen.1 in
-            (omega (arith, worn), omega (arith, worn, head, follows, low, high));
-        drained = refl;
-      } in (
-        st.0 ∙ pass.0,
-        known_at M s.id t.id (w, []) t.me hand hand st.1 after' refl (reworded s.id v w hand refl (length-set v.worn k h) (at_rest M s.id s.me hand known)),
-        record {
-          worn = λ i q ne at. ap (λ (m : Me (Option P) (View E)). worn_by m.0 i) after' ∙ settled.worn i q ne at;
-          hot = λ i q is at. let x = settled.hot i q is at in (subst IsHot (sym (ap (λ (m : Me (Option P) (View E)). worn_by m.0 i) after')) x.0, ap (λ (m : Me (Option P) (View E)). worn_by m.0 i + 3 * 2 ^ 30) after' ∙ x.1);
-          drained = ap (λ (m : Me (Option P) (View E)). m.0.drained) after';
-        },
-      )
-
--- of two facts that hold where a test does, the first
-pub match_first : (P Q R : Type 0) (b : Bool) → MatchBool b P (Q × R) → MatchBool b P Q
-match_first P Q R true m = m
-match_first P Q R false m = m.0
-
--- and the second
-pub match_second : (P Q R : Type 0) (b : Bool) → MatchBool b P (Q × R) → MatchBool b P R
-match_second P Q R true m = m
-match_second P Q R false m = m.1
-
--- An event as a whole: what it made of the hand, and where it stands in the log.
-module _ {C P E R S T F : Type 0} (t : Ghosts C P E R S T F) (core : C) (passes : ℕ) (laws : Laws (meaning t core passes)) (z : TableId) (s u : Seat (Option P) (View E)) (hand hand' : List (Option P)) (event : E) (reply : R) (old new : ℕ) where
-  -- What the events mean to the hall, by the core and the count of passes.
-  abbrev M : Meaning P E T F
-  M = meaning t core passes
-
-  -- the hand has what the event makes of its parts, or is as it was where the event was refused
-  abbrev pub Meets : S → Type 0
-  Meets sh = (x : List P) → t.sound sh x → Agrees hand x → t.stands sh event x → t.fits sh event x → MatchBool (t.refused reply) (hand' ≡ hand) (Agrees hand' (t.effect sh event x) × (reply ≡ t.reply sh event x))
-
-  -- the event adds no more than its cost
-  abbrev pub Costs : S → Type 0
-  Costs sh = (x : List P) → t.sound sh x → Agrees hand x → t.stands sh event x → t.fits sh event x → new ≤ old + t.cost sh event x
-
-  -- an event stands at the log's end, with its reply and what it made of the hand
-  abbrev pub Done : S → Type 0
-  Done sh = (before : List (Entry E)) × Extends M s before (entry_of s.id s.me.0 (t.refused reply) event) u × MatchBool (t.refused reply) (hand' ≡ hand) (reply ≡ t.reply sh event (replay M before)) × (new ≤ old + t.cost sh event (replay M before))
-
-  -- An event that met its parts and costs what it may is done, and its pass knows of it.
-  pub finish : (sh : S) → sh ≡ t.shape_of core → (s.table_id ≡ z) × Knows M s.id s.me hand → Asks M laws hand s.me.0 event → (t.refused reply ≡ true → t.takes_memory event ≡ true) → length s.me.0.mine < 2 ^ 56 * hands_of s.me.0 → SameRoom hand hand' → Meets sh → Costs sh → (n : ℕ) → Adds M s.id s.me.0 (entry_of s.id s.me.0 (t.refused reply) event) n u.me → IsSameSeat s u
-      → ((u.table_id ≡ z) × Knows M u.id u.me hand') × Done sh
-  finish sh is pass asks may few same meets costs n told st =
-      let before : List (Entry E) = told.0 in
-      let still = stays_lawful M laws s.id hand s.me.0 event before pass.1.sound pass.1.room asks pass.1.held told.1 in
-      let meets' : Meets (t.shape_of core) = subst Meets is meets in
-      let costs' : Costs (t.shape_of core) = subst Costs is costs in
-      let x : List P = replay M before in
-      let here = meets' x told.1.sound still.0 still.1 still.2 in
-      let e : Entry E = entry_of s.id s.me.0 (t.refused reply) event in
-      let end' : u.me ≡ (added s.me.0 before e, []) = λ i. (told.2 i, told.3 i) in
-      let r = made_at M laws z s u hand hand' e before pass asks may few refl (least_there s.me.0.sessions (let f = few in omega (arith, f))) same
-      (λ y ok agrees stands fits. match_first (hand' ≡ hand) (Agrees hand' (t.effect (t.shape_of core) event y)) (reply ≡ t.reply (t.shape_of core) event y) (t.refused reply) (meets' y ok agrees stands fits)) told.1 told.4 st end' in (
-        r.0,
-        subst Done (sym is) (before, r.1, match_second (hand' ≡ hand) (Agrees hand' (t.effect (t.shape_of core) event x)) (reply ≡ t.reply (t.shape_of core) event x) (t.refused reply) here, costs' x told.1.sound still.0 still.1 still.2),
-      )

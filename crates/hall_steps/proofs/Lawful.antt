@@ -1,8 +1,8 @@
 -- Each turn of a word that a hall makes is a lawful move.
-use Rattle.std.proofs.Common.{◌≡◌, ◌≢◌, ℕ, ◌+◌, ◌/◌, ◌%◌, ◌^◌, ◌<◌, Option, Some, refl, sym, ap, subst, ◌∙◌, inl, ⊎_elim, arith}
+use Rattle.std.proofs.Common.{◌≡◌, ℕ, ◌+◌, ◌/◌, ◌%◌, ◌^◌, ◌<◌, Option, Some, refl, sym, ap, subst, ◌∙◌, inl, arith}
 use Rattle.std.specs.Prelude.{IsSomeAnd}
 use Rattle.block_word.specs.Word.{IsInRange, IsLawfulMove, stamps_taken, state_of, unpacked}
-use Rattle.hall_rule.specs.Heads.{IsFrozen, MayTurn, head_in}
+use Rattle.hall_rule.specs.Heads.{IsFrozen, head_in}
 use Rattle.hall_steps.specs.Hall.{with_head}
 
 -- what a number stands for has its room
@@ -16,22 +16,7 @@ turn n m x y taken known from to stamp readers =
     let stamps : IsSomeAnd (stamps_taken (state_of (n / 2 ^ 62)) (state_of (m / 2 ^ 62))) (λ (k : ℕ). m / 2 ^ 32 % 2 ^ 30 ≡ n / 2 ^ 32 % 2 ^ 30 + k) = subst (λ (o : Option ℕ). IsSomeAnd o (λ (k : ℕ). m / 2 ^ 32 % 2 ^ 30 ≡ n / 2 ^ 32 % 2 ^ 30 + k)) (sym takes) stamp in
     record { from = in_range n; to = in_range m; move = inl (stamps, readers) }
 
--- What the holder of a part makes of its word, where it makes anything.
-pub turning_is_lawful : (n head : ℕ) → n < 2 ^ 64 → head < 2 ^ 32 → MayTurn (head_in n) head → head ≢ head_in n → IsLawfulMove (unpacked n) (unpacked (with_head n head))
-turning_is_lawful n head small room may ne = ⊎_elim
-    (λ same. absurd (ne same))
-    (⊎_elim
-    (⊎_elim
-    (λ t. let a = t.0 in let b = t.1 in turn n (with_head n head) 0 1 0 refl (omega (arith, a)) (omega (arith, a, b)) (omega (arith, a, b)) (omega arith))
-    (⊎_elim
-    (λ t. let a = t.0.0 in let z = t.0.1 in let b = t.1 in turn n (with_head n head) 1 0 0 refl (omega (arith, a, z)) (omega (arith, a, z, b)) (omega (arith, a, z, b)) (omega arith))
-    (⊎_elim
-    (λ t. let a = t.0.0 in let z = t.0.1 in let b = t.1 in let f = t.2.1 in turn n (with_head n head) 1 2 1 refl (omega (arith, a, z)) (omega (arith, a, z, b, f)) (omega (arith, a, z, b, f)) (omega arith))
-    (λ t. let a = t.0.0 in let z = t.0.1 in let b = t.1 in turn n (with_head n head) 2 3 0 refl (omega (arith, a, z)) (omega (arith, a, z, b)) (omega (arith, a, z, b)) (omega arith)))))
-    (λ t. let a = t.0 in let b = t.1 in turn n (with_head n head) 0 3 0 refl (omega (arith, a)) (omega (arith, a, b)) (omega (arith, a, b)) (omega arith)))
-    may
-
--- What it makes of the word of a block that is to be thawed.
+-- What the holder of a block that is to be thawed makes of its word.
 pub thawing_is_lawful : (n : ℕ) → n < 2 ^ 64 → IsFrozen (head_in n) → IsLawfulMove (unpacked n) (unpacked (with_head n (head_in n % 2 ^ 30)))
 thawing_is_lawful n small frozen =
     let low = frozen.0 in

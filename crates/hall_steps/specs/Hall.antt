@@ -108,7 +108,9 @@ module _ {P E T F : Type 0} (M : Meaning P E T F) where
   -- What a pass knows of the words of the parts in its hand: they follow the parts, but for that of
   -- a block that is about to be thawed, which is hot, and which nobody reads. `thawing` is one more
   -- than the number of that block, or 0.
-  pub record Settled (thawing : ℕ) (me : Me (Option P) (View E)) (hand : List (Option P)) : Type 0 where
+  pub record Settled
+      (thawing : ℕ) (me : Me (Option P) (View E)) (hand : List (Option P))
+      : Type 0 where
     pub worn : (k : ℕ) (p : P) → suc k ≢ thawing → slice_get hand k ≡ Some (Some p)
         → worn_by me.0 k ≡ M.head p
     pub hot : (k : ℕ) (p : P) → suc k ≡ thawing → slice_get hand k ≡ Some (Some p)
@@ -125,7 +127,9 @@ module _ {P E T F : Type 0} (M : Meaning P E T F) where
 
   -- A pass of the table z with these hands: each has a place for every part, and only the first has
   -- parts.
-  pub record IsPassAt (thawing : ℕ) (z : TableId) (seat : Seat (Option P) (View E)) (hands : List (List (Option P))) : Type 0 where
+  pub record IsPassAt
+      (thawing : ℕ) (z : TableId) (seat : Seat (Option P) (View E)) (hands : List (List (Option P)))
+      : Type 0 where
     pub of : IsOfAt thawing z seat (first_of hands)
     pub count : length hands ≡ hands_of seat.me.0
     pub places : EachHand (λ hand. length hand ≡ length M.start) hands
@@ -159,7 +163,9 @@ module _ {P E T F : Type 0} (M : Meaning P E T F) where
 
   -- The view's log goes on from all that was seen, up to `before`, and ends with the entry, which
   -- is one more of the pass's.
-  pub record EndsWith (id : ℕ) (v : View E) (before : List (Entry E)) (e : Entry E) (w : View E) : Type 0 where
+  pub record EndsWith
+      (id : ℕ) (v : View E) (before : List (Entry E)) (e : Entry E) (w : View E)
+      : Type 0 where
     pub joined : w.joined ≡ v.joined
     pub sessions : w.sessions ≡ v.sessions
     pub learned : Learned M id v before
@@ -187,7 +193,8 @@ module _ {P E T F : Type 0} (M : Meaning P E T F) where
     pub stays : Stays M sessions v.log w.log
 
   -- Two passes became one: it has the numbers, the entries and the hands of both, and has seen no
-  -- less than either. What each knew of its own sessions, and for good, still stands.
+  -- less than either. What each knew of its own sessions, and for good, still stands, and the parts
+  -- that the first holds are as it knew them.
   pub record Joined (id other : ℕ) (v u w : View E) : Type 0 where
     pub joined : w.joined ≡ v.joined ++ other ∷ u.joined
     pub sessions : w.sessions ≡ v.sessions ++ u.sessions
@@ -198,6 +205,8 @@ module _ {P E T F : Type 0} (M : Meaning P E T F) where
     pub theirs : GoesOn u w.log
     pub stood : Stays M v.sessions v.log w.log
     pub came : Stays M u.sessions u.log w.log
+    pub parts : (k : ℕ) → stage v k ≡ 2
+        → slice_get (replay M w.log) k ≡ slice_get (replay M v.log) k
     pub taken : w.taken ≡ v.taken
     pub reads : SameClaim v w
 
@@ -229,10 +238,11 @@ abbrev pub EnterTells : ℕ → ℕ → Result Claim NotFrozen → Type 0
 EnterTells k n (Ok claim) = (claim.part ≡ k) × IsFrozen (head_in n)
 EnterTells k n (Err not_frozen) = (not_frozen.word ≡ n) × ¬ IsFrozen (head_in n)
 
--- What it tells of the head of a part in the hand: a claim where that is frozen, and only there.
+-- What it tells of the head of a part in the hand: a claim where that is frozen, and only there;
+-- else the number, which has that head.
 abbrev pub EntersHeld : ℕ → Result Claim NotFrozen → Type 0
 EntersHeld head (Ok claim) = IsFrozen head
-EntersHeld head (Err not_frozen) = ¬ IsFrozen head
+EntersHeld head (Err not_frozen) = (head_in not_frozen.word ≡ head) × ¬ IsFrozen head
 
 -- The word with another head, and with its readers.
 abbrev pub with_head : ℕ → ℕ → ℕ

@@ -8,6 +8,7 @@ ghost use Rattle.hall_rule.specs.Meaning.{planned};
 ghost use Rattle.hall_rule.specs.Views.{entry_of};
 ghost use Rattle.hall_rule.specs.declared.view.Entry.{Entry};
 ghost use Rattle.hall_rule.specs.Heads.{MayTurn, head_of};
+ghost use Rattle.hall_steps.specs.Counting.{Counts};
 ghost use Rattle.hall_steps.specs.Hall.{Extends, FollowParts, IsOf, IsOfAt, IsSameSeat, IsSized};
 ghost use Rattle.hall_steps.specs.Hall.{Knows, thawed_by};
 
@@ -41,20 +42,8 @@ pub(crate) fn count<C: Parts, L: Ledger>(
         (replay (planned C.Parts board.now.key) seat.old.me.0.log) }
     requires named { (q : ℕ) → C.names event ≡ Some q → has q seat.old.me.0.sessions ≡ true }
     requires few { length seat.old.me.0.mine < 2 ^ 56 * hands_of seat.old.me.0 }
-    ensures pass { (seat.new.table_id ≡ board.now.table_id)
-        × Knows (planned C.Parts board.now.key) seat.new.id seat.new.me hand.new }
-    ensures turns { (k : ℕ) (p : C.Part) → slice_get hand.new k ≡ Some (Some p)
-        → MayTurn (worn_by seat.new.me.0 k) (head_of (C.wears p)) }
-    ensures still { C.turning event ≡ false → FollowParts C.Parts seat.new.me.0 hand.new }
-    ensures drained { seat.new.me.0.drained ≡ 0 }
-    ensures room { SameRoom hand.old hand.new }
-    ensures log { (before : List (Entry C.Event))
-        × Extends (planned C.Parts board.now.key) seat.old before
-        (entry_of seat.old.id seat.old.me.0 (C.refused result) event) seat.new
-        × MatchBool (C.refused result) (hand.new ≡ hand.old)
-        (result ≡ C.reply shape.now event (replay (planned C.Parts board.now.key) before))
-        × (steps.new ≤ steps.old + C.cost shape.now event
-        (replay (planned C.Parts board.now.key) before)) }
+    ensures { Counts C.Parts (planned C.Parts board.now.key) board.now.table_id shape.now event
+        result seat.old seat.new hand.old hand.new steps.old steps.new }
 {
     let told = Snapshot::of(&event);
     let reply = C::run(shape, event, hand, steps);

@@ -10,6 +10,7 @@ use Rattle.block_spec.specs.Bodies.{is_imaged, rows_of}
 use Rattle.block_spec.specs.declared.phase.Phase.{Phase}
 use Rattle.block_spec.specs.declared.phase.Phase.TheVariants.{Loose, Sealed, Imaged}
 use Rattle.block_spec.specs.Slots.{Row}
+use Rattle.core_laws.proofs.Frames.Distinct.{part_is}
 use Rattle.core_laws.proofs.Frozen.Moments.{imaged_rows_stay, shared_is}
 use Rattle.core_laws.proofs.Logs.Logs.{reaches}
 use Rattle.core_laws.proofs.Words.Keeping.{words_have_room, words_tell_images}
@@ -17,9 +18,10 @@ use Rattle.core_laws.specs.Frames.Shards.{CoreHolds}
 use Rattle.core_laws.specs.Words.Laws.{TellsImage}
 use Rattle.core_laws.specs.Words.Words.{word_of}
 use Rattle.event_spec.specs.declared.own.OwnTransaction.{OwnTransaction}
+use Rattle.event_spec.specs.declared.part.Part.TheVariants.{Body}
 use Rattle.event_spec.specs.Effects.{CoreEvent}
 use Rattle.event_spec.specs.Lawful.{HasBlock, OwnsAll}
-use Rattle.event_spec.specs.Parts.{BodyOf, CorePart, Parts, Shape, body_at, names}
+use Rattle.event_spec.specs.Parts.{BodyOf, CorePart, Parts, Shape, body_at, body_from, names, part_at}
 use Rattle.event_spec.specs.Replay.{IsLawfulFrom, IsLawfulLog, Made, after, opening, replay}
 use Rattle.event_spec.specs.Replies.{rows_read}
 use Rattle.event_spec.specs.Sound.{IsShape}
@@ -241,6 +243,18 @@ module _ (store : StoreView) (session : ℕ) (s t : SeatView) (hands later : Han
             go true imaged = absurd (head (tells.frozen.0 imaged))
             go false imaged = imaged
 
+        -- The part is the block's body, whose state and stamp its word follows.
+        entered_head : head_of (word_of p) ≡ head_of (word_of (Body (body_at (shape_in store) (left_parts store session t later own entered_within) table block)))
+        entered_head =
+            let sh = shape_in store in
+            let s = left_parts store session t later own entered_within in
+            let here = part_is sh s part (BodyOf table block) p number (ap (λ (x : Parts). slice_get x part) (sym (same_parts store session t later own entered_within)) ∙ at) in
+            let body = Rattle.core_laws.proofs.Events.Naming.body_there sh s (left_holds store session t later own entered_within).sound.kinds table block has in
+            ap (λ (q : CorePart). head_of (word_of q)) (same (part_at sh s (BodyOf table block)) (Body body.0) here body.1 ∙ ap Body (sym (ap body_from body.1)))
+          where
+            same : (o : Option CorePart) (q : CorePart) → o ≡ Some p → o ≡ Some q → p ≡ q
+            same o q one other = cc
+
         -- Where the word was not frozen there is no claim.
         entered_none : (IsFrozen (head_in n) → ⊥) → tried s.me.0 part n ≡ left (bumped s.me.0 part n)
         entered_none other = go (tried_either s.me.0 part n)
@@ -272,7 +286,7 @@ module _ (store : StoreView) (session : ℕ) (s t : SeatView) (hands later : Han
         never_wanting word e = true≢false (ap is_wanting e)
 
         -- the block was not lent
-        pub held_not : (word : ℕ) → word ≡ n → (IsFrozen (head_in n) → ⊥) → (IsFrozen (head_of (word_of p)) → ⊥) → s.me.0.claim ≡ 0 → first_of later ≡ first_of hands
+        pub held_not : (word : ℕ) → word ≡ n → (IsFrozen (head_in n) → ⊥) → (head_in word ≡ head_of (word_of p)) × (IsFrozen (head_of (word_of p)) → ⊥) → s.me.0.claim ≡ 0 → first_of later ≡ first_of hands
             → LendsHeld store session s t hands later own table block (Err (fault.NotLent word))
         held_not word is other head free hand = record {
           within = entered_within;
@@ -281,7 +295,7 @@ module _ (store : StoreView) (session : ℕ) (s t : SeatView) (hands later : Han
           taken = entered_taken;
           hand = hand;
           unlent = λ w e. entered_kept other free;
-          answers = (entered_free other, entered_loose head, λ frozen. other (subst (λ k. IsFrozen (head_in k)) is frozen));
+          answers = (entered_free other, entered_loose head.1, (λ frozen. other (subst (λ k. IsFrozen (head_in k)) is frozen)), head.0 ∙ entered_head);
         }
 
         -- it was
@@ -345,6 +359,7 @@ answers_on sh v w own table block (Err (fault.NotLent word)) log same a = (
   same.0 ∙ a.0,
   subst (λ (l : List (Entry CoreEvent)). is_imaged (body_at sh (parts_after sh (log_of l)) table block).phase ≡ false) (sym log) a.1,
   a.2,
+  subst (λ (l : List (Entry CoreEvent)). head_in word ≡ head_of (word_of (Body (body_at sh (parts_after sh (log_of l)) table block)))) (sym log) a.3,
 )
 answers_on sh v w own table block (Err fault.Memory) log same a = (
   same.0 ∙ a.0,

@@ -6,7 +6,9 @@ use Rattle.std.specs.Prelude.{Result, Ok, Err, slice_get}
 use Rattle.block_spec.specs.Bodies.{is_imaged, rows_of}
 use Rattle.block_spec.specs.declared.phase.Phase.TheVariants.{Imaged}
 use Rattle.block_spec.specs.Slots.{Row}
+use Rattle.core_laws.specs.Words.Words.{word_of}
 use Rattle.event_spec.specs.declared.own.OwnTransaction.{OwnTransaction}
+use Rattle.event_spec.specs.declared.part.Part.TheVariants.{Body}
 use Rattle.event_spec.specs.Effects.{CoreEvent}
 use Rattle.event_spec.specs.Lawful.{HasBlock}
 use Rattle.event_spec.specs.Parts.{BodyOf, Parts, Shape, body_at, names}
@@ -14,7 +16,7 @@ use Rattle.event_spec.specs.Replies.{rows_read}
 use Rattle.event_spec.specs.declared.event.Event.TheVariants as event
 use Rattle.event_spec.specs.Touched.{touching}
 use Rattle.hall_rule.specs.Hands.{Covers, Holds}
-use Rattle.hall_rule.specs.Heads.{IsFrozen, head_in}
+use Rattle.hall_rule.specs.Heads.{IsFrozen, head_in, head_of}
 use Rattle.hall_rule.specs.declared.view.View.{View}
 use Rattle.hall_steps.specs.Hall.{SameClaim, first_of}
 use Rattle.run_spec.specs.Handed.{GoesOn, own_in}
@@ -65,11 +67,13 @@ module _ (shape : Shape) (view : View CoreEvent) (own : Option OwnTransaction) w
     pub image : HasImage table block stamp lend.rows
 
   -- What a lend answers: the block is lent where it is imaged there, but for want of memory; else
-  -- it is not, and the word that was found is not frozen.
+  -- it is not, and the word that was found is not frozen: it has the state and the stamp that the
+  -- word of the block's body has there.
   abbrev pub LendAnswers : ℕ → ℕ → Result LendView LendFault → Type 0
   LendAnswers table block (Ok lend) = (stamp : ℕ) × HasLent lend table block stamp
   LendAnswers table block (Err (fault.NotLent word)) =
       LendsNothing view × ImagedIs table block false × ¬ IsFrozen (head_in word)
+      × (head_in word ≡ head_of (word_of (Body (body_at shape parts_of table block))))
   LendAnswers table block (Err fault.Memory) = LendsNothing view × ImagedIs table block true
 
 -- ---- a pass that holds the block's body
@@ -145,8 +149,8 @@ LooksAnew old new = old.looks < new.looks
 
 -- A lend was given back: the session has lent nothing any more. It made no event and took no part,
 -- and has open what it had. It has looked at the log: what it has seen by then has all that stood
--- there when the call was made. In this log the block is imaged with the same stamp, and its rows are
--- still those that were lent.
+-- there when the call was made. In this log the block is imaged with the same stamp, and its rows
+-- are still those that were lent.
 pub record EndsLend (store : StoreView) (old new : Session) (lend : LendView) : Type 0 where
   pub session : IsSession store new
   pub same : new.session ≡ old.session

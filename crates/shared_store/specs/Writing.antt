@@ -31,6 +31,10 @@ abbrev pub settled : PlaceMap ℕ → Place → CoreReply → PlaceMap ℕ
 settled writes place (reply.Written slot) = insert_entry place_cmp writes place slot
 settled writes place _ = writes
 
+-- the writes after a reply are those before it, as it settles them
+abbrev pub Settles : PlaceMap ℕ → PlaceMap ℕ → Place → CoreReply → Type 0
+Settles old new place told = new ≡ settled old place told
+
 -- a write is accepted, refused, or finds no memory
 abbrev pub IsWriteReply : CoreReply → Type 0
 IsWriteReply (reply.Begun snapshot) = ⊥

@@ -11,7 +11,7 @@ ghost use Rattle.shared_store.specs.Open.{WritesRow};
 ghost use Rattle.shared_store.specs.Store.{Answers, HasRoomFor, IsSession, MakesAtMost, own_of};
 ghost use Rattle.shared_store.specs.Store.{seen, shape_in};
 ghost use Rattle.shared_store.specs.Told.{written_told};
-ghost use Rattle.shared_store.specs.Writing.{FoundFull, settled};
+ghost use Rattle.shared_store.specs.Writing.{FoundFull, Settles};
 ghost use Rattle.shared_store.specs.declared.faults.StoreFault.TheVariants as refused;
 
 use crate::faults::StoreFault;
@@ -67,7 +67,7 @@ impl Store {
         requires had { is_some (at_place writes.old place) ≡ had }
         ensures made { IfOk result (MakesAny self.now
             pass.old.seat pass.old.hands pass.new.seat pass.new.hands event) }
-        ensures writes { IfOk result (λ told. writes.new ≡ settled writes.old place told) }
+        ensures writes { IfOk result (Settles writes.old writes.new place) }
         ensures none { OnErr result (pass.new ≡ pass.old) }
         ensures kept { OnErr result (writes.new ≡ writes.old) }
     {

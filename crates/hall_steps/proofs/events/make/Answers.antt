@@ -11,6 +11,7 @@ returns-clause-log g c =
     let m = g.met.C.Parts in
     let M = meaning t key.core.value key.passes in
     let laws = laws_of t m.keeps m.frame m.room m.local m.depends m.leaves m.outlives m.small m.turns m.still key.core.value key.passes in
-    let l = c.count-reply.ensures.log in
+    let l = c.count-reply.ensures in
     let s = c.args.seat.now in
-    (l.0, extends_on M laws s c.count-reply.new.seat c.settle.new.seat l.0 (entry_of s.id s.me.0 (t.refused c.count-reply.result) c.args.event) l.1 c.settle.ensures.seat c.settle.ensures.same, l.2, l.3)
+    let e = entry_of s.id s.me.0 (t.refused c.count-reply.result) c.args.event in
+    (l.before, extends_on M laws s c.count-reply.new.seat c.settle.new.seat l.before e l.extends c.settle.ensures.seat c.settle.ensures.same, l.answers, l.costs)

@@ -26,8 +26,8 @@ unreachable-requires g c =
     (c.make_at_desk.ensures s.session (own_of s) c.requires.session.stands mine) in
     c.in_default.not-Aborted (told_always c.args.self.now s.session s.pass.seat c.make_at_desk.new.pass.seat c.make_at_desk.new.pass.hands (own_of s) (event.Abort t) c.make_at_desk.result m refl)
 
-pub returns-clause-session : goal.returns-clause-session
-returns-clause-session g c =
+pub returns : goal.returns
+returns g c =
     let s = c.args.session.now in
     let t = c.own_all-own.result in
     let owns = own_stands c.args.self.now s t c.requires.session c.own_all-own.ensures in
@@ -35,30 +35,14 @@ returns-clause-session g c =
     let m = subst (λ (e : CoreEvent). Makes c.args.self.now s.session s.pass.seat c.make_at_desk.new.pass.seat c.make_at_desk.new.pass.hands (own_of s) e c.make_at_desk.result) c.ending-event.ensures
     (c.make_at_desk.ensures s.session (own_of s) c.requires.session.stands mine) in
     let new : Session = record { pass = c.make_at_desk.new.pass; session = s.session; snapshot = None; writes = s.writes } in
-    (one_event c.args.self.now s new command.Abort (event.Abort t) c.make_at_desk.result said.Aborted c.requires.session refl m refl refl
+    let both = one_event c.args.self.now s new command.Abort (event.Abort t) c.make_at_desk.result said.Aborted c.requires.session refl m refl refl
     (ap (refusal_of command.Abort) c.own_all-own.ensures) (λ made. ap (λ (o : Option OwnTransaction). events_of (shape_in c.args.self.now) o s.session command.Abort made) c.own_all-own.ensures)
-    (subst (λ (r : CoreReply). TellsLine (own_of s) command.Abort r said.Aborted) (sym c.in-Aborted.is) refl)).0
-
-pub returns-clause-answers : goal.returns-clause-answers
-returns-clause-answers g c =
-    let s = c.args.session.now in
-    let t = c.own_all-own.result in
-    let owns = own_stands c.args.self.now s t c.requires.session c.own_all-own.ensures in
-    let mine : IsOfSession s.session c.ending-event.result = inl (ap session_of c.ending-event.ensures ∙ ap Some owns.0) in
-    let m = subst (λ (e : CoreEvent). Makes c.args.self.now s.session s.pass.seat c.make_at_desk.new.pass.seat c.make_at_desk.new.pass.hands (own_of s) e c.make_at_desk.result) c.ending-event.ensures
-    (c.make_at_desk.ensures s.session (own_of s) c.requires.session.stands mine) in
-    let new : Session = record { pass = c.make_at_desk.new.pass; session = s.session; snapshot = None; writes = s.writes } in
-    (one_event c.args.self.now s new command.Abort (event.Abort t) c.make_at_desk.result said.Aborted c.requires.session refl m refl refl
-    (ap (refusal_of command.Abort) c.own_all-own.ensures) (λ made. ap (λ (o : Option OwnTransaction). events_of (shape_in c.args.self.now) o s.session command.Abort made) c.own_all-own.ensures)
-    (subst (λ (r : CoreReply). TellsLine (own_of s) command.Abort r said.Aborted) (sym c.in-Aborted.is) refl)).1
-
-pub returns-clause-few : goal.returns-clause-few
-returns-clause-few g c =
-    let s = c.args.session.now in
-    let t = c.own_all-own.result in
-    let owns = own_stands c.args.self.now s t c.requires.session c.own_all-own.ensures in
-    let mine : IsOfSession s.session c.ending-event.result = inl (ap session_of c.ending-event.ensures ∙ ap Some owns.0) in
-    let m = subst (λ (e : CoreEvent). Makes c.args.self.now s.session s.pass.seat c.make_at_desk.new.pass.seat c.make_at_desk.new.pass.hands (own_of s) e c.make_at_desk.result) c.ending-event.ensures
-    (c.make_at_desk.ensures s.session (own_of s) c.requires.session.stands mine) in
+    (subst (λ (r : CoreReply). TellsLine (own_of s) command.Abort r said.Aborted) (sym c.in-Aborted.is) refl) in
     let count = m.count in
-    omega (arith, count)
+    record {
+      session = both.0;
+      same = refl;
+      answers = both.1;
+      rests = refl;
+      few = omega (arith, count);
+    }

@@ -25,62 +25,33 @@ unreachable-requires g c =
     (c.make_at_desk.ensures s.session (own_of s) c.requires.session.stands mine) in
     c.in_default.not-Begun _ (told_always c.args.self.now s.session s.pass.seat c.make_at_desk.new.pass.seat c.make_at_desk.new.pass.hands (own_of s) (event.Begin s.session) c.make_at_desk.result m refl)
 
-pub returns-clause-session : goal.returns-clause-session
-returns-clause-session g c =
+pub returns : goal.returns
+returns g c =
     let s = c.args.session.now in
     let none' = none_open s (sym c.is_some.ensures ∙ c.if-is_some.false) in
     let mine : IsOfSession s.session c.new-event.result = inl (ap session_of c.new-event.ensures) in
     let m = subst (λ (e : CoreEvent). Makes c.args.self.now s.session s.pass.seat c.make_at_desk.new.pass.seat c.make_at_desk.new.pass.hands (own_of s) e c.make_at_desk.result) c.new-event.ensures
     (c.make_at_desk.ensures s.session (own_of s) c.requires.session.stands mine) in
     let new : Session = record { pass = c.make_at_desk.new.pass; session = s.session; snapshot = Some c.in-Begun.snapshot; writes = c.clear.new.self } in
-    (one_event c.args.self.now s new command.Begin (event.Begin s.session) c.make_at_desk.result (said.At c.in-Begun.snapshot.number) c.requires.session refl m refl
+    let both = one_event c.args.self.now s new command.Begin (event.Begin s.session) c.make_at_desk.result (said.At c.in-Begun.snapshot.number) c.requires.session refl m refl
     (ap (λ w. Some (opened_at s.session w c.in-Begun.snapshot)) c.clear.ensures ∙ ap (begun_by s.session (own_of s)) (sym c.in-Begun.is))
     (ap (refusal_of command.Begin) none') (λ made. refl)
-    (subst (λ (r : CoreReply). TellsLine (own_of s) command.Begin r (said.At c.in-Begun.snapshot.number)) (sym c.in-Begun.is) refl)).0
-
-pub returns-clause-answers : goal.returns-clause-answers
-returns-clause-answers g c =
-    let s = c.args.session.now in
-    let none' = none_open s (sym c.is_some.ensures ∙ c.if-is_some.false) in
-    let mine : IsOfSession s.session c.new-event.result = inl (ap session_of c.new-event.ensures) in
-    let m = subst (λ (e : CoreEvent). Makes c.args.self.now s.session s.pass.seat c.make_at_desk.new.pass.seat c.make_at_desk.new.pass.hands (own_of s) e c.make_at_desk.result) c.new-event.ensures
-    (c.make_at_desk.ensures s.session (own_of s) c.requires.session.stands mine) in
-    let new : Session = record { pass = c.make_at_desk.new.pass; session = s.session; snapshot = Some c.in-Begun.snapshot; writes = c.clear.new.self } in
-    (one_event c.args.self.now s new command.Begin (event.Begin s.session) c.make_at_desk.result (said.At c.in-Begun.snapshot.number) c.requires.session refl m refl
-    (ap (λ w. Some (opened_at s.session w c.in-Begun.snapshot)) c.clear.ensures ∙ ap (begun_by s.session (own_of s)) (sym c.in-Begun.is))
-    (ap (refusal_of command.Begin) none') (λ made. refl)
-    (subst (λ (r : CoreReply). TellsLine (own_of s) command.Begin r (said.At c.in-Begun.snapshot.number)) (sym c.in-Begun.is) refl)).1
+    (subst (λ (r : CoreReply). TellsLine (own_of s) command.Begin r (said.At c.in-Begun.snapshot.number)) (sym c.in-Begun.is) refl) in
+    let count = m.count in
+    record {
+      session = both.0;
+      same = refl;
+      answers = both.1;
+      opens = begins_open c.args.self.now s new c.in-Begun.snapshot c.requires.session both.0 refl
+          (subst (λ (r : CoreReply). MakesOne (shape_in c.args.self.now) s.session (seen s) (seen new) (event.Begin s.session) r) c.in-Begun.is m.makes) none' refl;
+      few = omega (arith, count);
+    }
 
 pub returns-then-is_some-clause-answers : goal.returns-then-is_some-clause-answers
 returns-then-is_some-clause-answers g c =
     let s = c.args.session.now in
     no_event c.args.self.now s command.Begin said.InTransaction c.requires.session (begin_refused s (sym c.is_some.ensures ∙ c.if-is_some.true))
 
-pub returns-clause-opens : goal.returns-clause-opens
-returns-clause-opens g c =
-    let s = c.args.session.now in
-    let none' = none_open s (sym c.is_some.ensures ∙ c.if-is_some.false) in
-    let mine : IsOfSession s.session c.new-event.result = inl (ap session_of c.new-event.ensures) in
-    let m = subst (λ (e : CoreEvent). Makes c.args.self.now s.session s.pass.seat c.make_at_desk.new.pass.seat c.make_at_desk.new.pass.hands (own_of s) e c.make_at_desk.result) c.new-event.ensures
-    (c.make_at_desk.ensures s.session (own_of s) c.requires.session.stands mine) in
-    let new : Session = record { pass = c.make_at_desk.new.pass; session = s.session; snapshot = Some c.in-Begun.snapshot; writes = c.clear.new.self } in
-    let is = (one_event c.args.self.now s new command.Begin (event.Begin s.session) c.make_at_desk.result (said.At c.in-Begun.snapshot.number) c.requires.session refl m refl
-    (ap (λ w. Some (opened_at s.session w c.in-Begun.snapshot)) c.clear.ensures ∙ ap (begun_by s.session (own_of s)) (sym c.in-Begun.is))
-    (ap (refusal_of command.Begin) none') (λ made. refl)
-    (subst (λ (r : CoreReply). TellsLine (own_of s) command.Begin r (said.At c.in-Begun.snapshot.number)) (sym c.in-Begun.is) refl)).0 in
-    begins_open c.args.self.now s new c.in-Begun.snapshot c.requires.session is refl
-    (subst (λ (r : CoreReply). MakesOne (shape_in c.args.self.now) s.session (seen s) (seen new) (event.Begin s.session) r) c.in-Begun.is m.makes) none' refl
-
 pub returns-then-is_some-clause-opens : goal.returns-then-is_some-clause-opens
 returns-then-is_some-clause-opens g c =
     record { busy = busy_of c.args.session.now (sym c.is_some.ensures ∙ c.if-is_some.true); stays = refl }
-
-pub returns-clause-few : goal.returns-clause-few
-returns-clause-few g c =
-    let s = c.args.session.now in
-    let none' = none_open s (sym c.is_some.ensures ∙ c.if-is_some.false) in
-    let mine : IsOfSession s.session c.new-event.result = inl (ap session_of c.new-event.ensures) in
-    let m = subst (λ (e : CoreEvent). Makes c.args.self.now s.session s.pass.seat c.make_at_desk.new.pass.seat c.make_at_desk.new.pass.hands (own_of s) e c.make_at_desk.result) c.new-event.ensures
-    (c.make_at_desk.ensures s.session (own_of s) c.requires.session.stands mine) in
-    let count = m.count in
-    omega (arith, count)

@@ -25,132 +25,74 @@ unreachable-requires g c =
     let body = body_at (shape_in st) (parts_after (shape_in st) all.makes.makes.before) c.args.table c.args.block in
     images_tell body.phase body c.in-Some.told told c.in_default-told.not-Imaged c.in_default-told.not-NoSeal c.in_default-told.not-Memory
 
-pub returns-in_default-clause-session : goal.returns-in_default-clause-session
-returns-in_default-clause-session g c =
+pub returns-in_default : goal.returns-in_default
+returns-in_default g c =
     let st = c.args.self.now in
     let s = c.args.session.now in
     let new : Session = record { pass = c.image.new.pass; session = s.session; snapshot = s.snapshot; writes = s.writes } in
     let none = none_is c.image.result c.in_default.not-Some in
     let all = subst (λ (o : Option CoreReply). Imaged st s.session s.pass.seat new.pass.seat new.pass.hands (own_of s) c.args.table c.args.block o) none (c.image.ensures s.session (own_of s) c.requires.session.stands) in
-    (gathered_none st s new c.args.table c.args.block c.requires.session all refl refl).0
+    let line = said.Memory in
+    let both = gathered_none st s new c.args.table c.args.block c.requires.session all refl refl in
+    record {
+      session = both.0;
+      same = refl;
+      answers = both.1;
+      leaves = call_leaves st s new (Gather c.args.table c.args.block) line c.requires.session both.0 refl both.1
+          (λ made. gather_asks (shape_in st) (own_after (own_in (shape_in st) s.session (seen s))) s.session made c.args.table c.args.block);
+      few = call_few st s new (Gather c.args.table c.args.block) line 1 both.1 (λ made. omega arith);
+    }
 
-pub returns-in-Imaged-clause-session : goal.returns-in-Imaged-clause-session
-returns-in-Imaged-clause-session g c =
+pub returns-in-Imaged : goal.returns-in-Imaged
+returns-in-Imaged g c =
     let st = c.args.self.now in
     let s = c.args.session.now in
     let new : Session = record { pass = c.image.new.pass; session = s.session; snapshot = s.snapshot; writes = s.writes } in
     let all = subst (λ (o : Option CoreReply). Imaged st s.session s.pass.seat new.pass.seat new.pass.hands (own_of s) c.args.table c.args.block o) c.in-Some.is (c.image.ensures s.session (own_of s) c.requires.session.stands) in
     let line = said.Frozen c.args.table c.args.block c.in-Imaged.rows in
-    (gathered_whole st s new c.args.table c.args.block c.in-Some.told line c.requires.session all refl refl
-    (subst (λ (r : CoreReply). TellsLine (own_of s) (Gather c.args.table c.args.block) r line) (sym c.in-Imaged.is) refl)).0
+    let both = gathered_whole st s new c.args.table c.args.block c.in-Some.told line c.requires.session all refl refl
+    (subst (λ (r : CoreReply). TellsLine (own_of s) (Gather c.args.table c.args.block) r line) (sym c.in-Imaged.is) refl) in
+    record {
+      session = both.0;
+      same = refl;
+      answers = both.1;
+      leaves = call_leaves st s new (Gather c.args.table c.args.block) line c.requires.session both.0 refl both.1
+          (λ made. gather_asks (shape_in st) (own_after (own_in (shape_in st) s.session (seen s))) s.session made c.args.table c.args.block);
+      few = call_few st s new (Gather c.args.table c.args.block) line 1 both.1 (λ made. omega arith);
+    }
 
-pub returns-in-NoSeal-clause-session : goal.returns-in-NoSeal-clause-session
-returns-in-NoSeal-clause-session g c =
+pub returns-in-NoSeal : goal.returns-in-NoSeal
+returns-in-NoSeal g c =
     let st = c.args.self.now in
     let s = c.args.session.now in
     let new : Session = record { pass = c.image.new.pass; session = s.session; snapshot = s.snapshot; writes = s.writes } in
     let all = subst (λ (o : Option CoreReply). Imaged st s.session s.pass.seat new.pass.seat new.pass.hands (own_of s) c.args.table c.args.block o) c.in-Some.is (c.image.ensures s.session (own_of s) c.requires.session.stands) in
     let line = said.NotFrozen in
-    (gathered_whole st s new c.args.table c.args.block c.in-Some.told line c.requires.session all refl refl
-    (subst (λ (r : CoreReply). TellsLine (own_of s) (Gather c.args.table c.args.block) r line) (sym c.in-NoSeal.is) refl)).0
+    let both = gathered_whole st s new c.args.table c.args.block c.in-Some.told line c.requires.session all refl refl
+    (subst (λ (r : CoreReply). TellsLine (own_of s) (Gather c.args.table c.args.block) r line) (sym c.in-NoSeal.is) refl) in
+    record {
+      session = both.0;
+      same = refl;
+      answers = both.1;
+      leaves = call_leaves st s new (Gather c.args.table c.args.block) line c.requires.session both.0 refl both.1
+          (λ made. gather_asks (shape_in st) (own_after (own_in (shape_in st) s.session (seen s))) s.session made c.args.table c.args.block);
+      few = call_few st s new (Gather c.args.table c.args.block) line 1 both.1 (λ made. omega arith);
+    }
 
-pub returns-in-Memory-clause-session : goal.returns-in-Memory-clause-session
-returns-in-Memory-clause-session g c =
+pub returns-in-Memory : goal.returns-in-Memory
+returns-in-Memory g c =
     let st = c.args.self.now in
     let s = c.args.session.now in
     let new : Session = record { pass = c.image.new.pass; session = s.session; snapshot = s.snapshot; writes = s.writes } in
     let all = subst (λ (o : Option CoreReply). Imaged st s.session s.pass.seat new.pass.seat new.pass.hands (own_of s) c.args.table c.args.block o) c.in-Some.is (c.image.ensures s.session (own_of s) c.requires.session.stands) in
     let line = said.Memory in
-    (gathered_whole st s new c.args.table c.args.block c.in-Some.told line c.requires.session all refl refl
-    (subst (λ (r : CoreReply). TellsLine (own_of s) (Gather c.args.table c.args.block) r line) (sym c.in-Memory.is) (refl, refl))).0
-
-pub returns-in_default-clause-answers : goal.returns-in_default-clause-answers
-returns-in_default-clause-answers g c =
-    let st = c.args.self.now in
-    let s = c.args.session.now in
-    let new : Session = record { pass = c.image.new.pass; session = s.session; snapshot = s.snapshot; writes = s.writes } in
-    let none = none_is c.image.result c.in_default.not-Some in
-    let all = subst (λ (o : Option CoreReply). Imaged st s.session s.pass.seat new.pass.seat new.pass.hands (own_of s) c.args.table c.args.block o) none (c.image.ensures s.session (own_of s) c.requires.session.stands) in
-    (gathered_none st s new c.args.table c.args.block c.requires.session all refl refl).1
-
-pub returns-in-Imaged-clause-answers : goal.returns-in-Imaged-clause-answers
-returns-in-Imaged-clause-answers g c =
-    let st = c.args.self.now in
-    let s = c.args.session.now in
-    let new : Session = record { pass = c.image.new.pass; session = s.session; snapshot = s.snapshot; writes = s.writes } in
-    let all = subst (λ (o : Option CoreReply). Imaged st s.session s.pass.seat new.pass.seat new.pass.hands (own_of s) c.args.table c.args.block o) c.in-Some.is (c.image.ensures s.session (own_of s) c.requires.session.stands) in
-    let line = said.Frozen c.args.table c.args.block c.in-Imaged.rows in
-    (gathered_whole st s new c.args.table c.args.block c.in-Some.told line c.requires.session all refl refl
-    (subst (λ (r : CoreReply). TellsLine (own_of s) (Gather c.args.table c.args.block) r line) (sym c.in-Imaged.is) refl)).1
-
-pub returns-in-NoSeal-clause-answers : goal.returns-in-NoSeal-clause-answers
-returns-in-NoSeal-clause-answers g c =
-    let st = c.args.self.now in
-    let s = c.args.session.now in
-    let new : Session = record { pass = c.image.new.pass; session = s.session; snapshot = s.snapshot; writes = s.writes } in
-    let all = subst (λ (o : Option CoreReply). Imaged st s.session s.pass.seat new.pass.seat new.pass.hands (own_of s) c.args.table c.args.block o) c.in-Some.is (c.image.ensures s.session (own_of s) c.requires.session.stands) in
-    let line = said.NotFrozen in
-    (gathered_whole st s new c.args.table c.args.block c.in-Some.told line c.requires.session all refl refl
-    (subst (λ (r : CoreReply). TellsLine (own_of s) (Gather c.args.table c.args.block) r line) (sym c.in-NoSeal.is) refl)).1
-
-pub returns-in-Memory-clause-answers : goal.returns-in-Memory-clause-answers
-returns-in-Memory-clause-answers g c =
-    let st = c.args.self.now in
-    let s = c.args.session.now in
-    let new : Session = record { pass = c.image.new.pass; session = s.session; snapshot = s.snapshot; writes = s.writes } in
-    let all = subst (λ (o : Option CoreReply). Imaged st s.session s.pass.seat new.pass.seat new.pass.hands (own_of s) c.args.table c.args.block o) c.in-Some.is (c.image.ensures s.session (own_of s) c.requires.session.stands) in
-    let line = said.Memory in
-    (gathered_whole st s new c.args.table c.args.block c.in-Some.told line c.requires.session all refl refl
-    (subst (λ (r : CoreReply). TellsLine (own_of s) (Gather c.args.table c.args.block) r line) (sym c.in-Memory.is) (refl, refl))).1
-
-pub returns-in_default-clause-leaves : goal.returns-in_default-clause-leaves
-returns-in_default-clause-leaves g c =
-    let st = c.args.self.now in
-    let s = c.args.session.now in
-    call_leaves st s _ (Gather c.args.table c.args.block) _ c.requires.session (returns-in_default-clause-session g c) refl (returns-in_default-clause-answers g c)
-    (λ made. gather_asks (shape_in st) (own_after (own_in (shape_in st) s.session (seen s))) s.session made c.args.table c.args.block)
-
-pub returns-in_default-clause-few : goal.returns-in_default-clause-few
-returns-in_default-clause-few g c =
-    let s = c.args.session.now in
-    let new : Session = record { pass = c.image.new.pass; session = s.session; snapshot = s.snapshot; writes = s.writes } in
-    call_few c.args.self.now s new (Gather c.args.table c.args.block) _ 1 (returns-in_default-clause-answers g c) (λ made. omega arith)
-
-pub returns-in-Imaged-clause-leaves : goal.returns-in-Imaged-clause-leaves
-returns-in-Imaged-clause-leaves g c =
-    let st = c.args.self.now in
-    let s = c.args.session.now in
-    call_leaves st s _ (Gather c.args.table c.args.block) _ c.requires.session (returns-in-Imaged-clause-session g c) refl (returns-in-Imaged-clause-answers g c)
-    (λ made. gather_asks (shape_in st) (own_after (own_in (shape_in st) s.session (seen s))) s.session made c.args.table c.args.block)
-
-pub returns-in-Imaged-clause-few : goal.returns-in-Imaged-clause-few
-returns-in-Imaged-clause-few g c =
-    let s = c.args.session.now in
-    let new : Session = record { pass = c.image.new.pass; session = s.session; snapshot = s.snapshot; writes = s.writes } in
-    call_few c.args.self.now s new (Gather c.args.table c.args.block) _ 1 (returns-in-Imaged-clause-answers g c) (λ made. omega arith)
-
-pub returns-in-NoSeal-clause-leaves : goal.returns-in-NoSeal-clause-leaves
-returns-in-NoSeal-clause-leaves g c =
-    let st = c.args.self.now in
-    let s = c.args.session.now in
-    call_leaves st s _ (Gather c.args.table c.args.block) _ c.requires.session (returns-in-NoSeal-clause-session g c) refl (returns-in-NoSeal-clause-answers g c)
-    (λ made. gather_asks (shape_in st) (own_after (own_in (shape_in st) s.session (seen s))) s.session made c.args.table c.args.block)
-
-pub returns-in-NoSeal-clause-few : goal.returns-in-NoSeal-clause-few
-returns-in-NoSeal-clause-few g c =
-    let s = c.args.session.now in
-    let new : Session = record { pass = c.image.new.pass; session = s.session; snapshot = s.snapshot; writes = s.writes } in
-    call_few c.args.self.now s new (Gather c.args.table c.args.block) _ 1 (returns-in-NoSeal-clause-answers g c) (λ made. omega arith)
-
-pub returns-in-Memory-clause-leaves : goal.returns-in-Memory-clause-leaves
-returns-in-Memory-clause-leaves g c =
-    let st = c.args.self.now in
-    let s = c.args.session.now in
-    call_leaves st s _ (Gather c.args.table c.args.block) _ c.requires.session (returns-in-Memory-clause-session g c) refl (returns-in-Memory-clause-answers g c)
-    (λ made. gather_asks (shape_in st) (own_after (own_in (shape_in st) s.session (seen s))) s.session made c.args.table c.args.block)
-
-pub returns-in-Memory-clause-few : goal.returns-in-Memory-clause-few
-returns-in-Memory-clause-few g c =
-    let s = c.args.session.now in
-    let new : Session = record { pass = c.image.new.pass; session = s.session; snapshot = s.snapshot; writes = s.writes } in
-    call_few c.args.self.now s new (Gather c.args.table c.args.block) _ 1 (returns-in-Memory-clause-answers g c) (λ made. omega arith)
+    let both = gathered_whole st s new c.args.table c.args.block c.in-Some.told line c.requires.session all refl refl
+    (subst (λ (r : CoreReply). TellsLine (own_of s) (Gather c.args.table c.args.block) r line) (sym c.in-Memory.is) (refl, refl)) in
+    record {
+      session = both.0;
+      same = refl;
+      answers = both.1;
+      leaves = call_leaves st s new (Gather c.args.table c.args.block) line c.requires.session both.0 refl both.1
+          (λ made. gather_asks (shape_in st) (own_after (own_in (shape_in st) s.session (seen s))) s.session made c.args.table c.args.block);
+      few = call_few st s new (Gather c.args.table c.args.block) line 1 both.1 (λ made. omega arith);
+    }

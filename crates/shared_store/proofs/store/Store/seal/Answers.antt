@@ -17,7 +17,7 @@ use Rattle.shared_store.specs.Store.{own_of, seen, shape_in}
 use Rattle.shared_store.specs.declared.session.Session.{Session}
 use Rattle.shared_store.proofs.Calls.{may_make, one_event, told_always}
 use Rattle.shared_store.proofs.Freezes.{block_there, seals_tell}
-use Rattle.shared_store.proofs.Stays.{call_few, call_leaves, seal_asks}
+use Rattle.shared_store.proofs.Stays.{call_leaves, seal_asks}
 use Rattle.shared_store.proofs.store.Store.seal.Goals as goal
 
 pub make-requires : goal.make-requires
@@ -41,8 +41,8 @@ unreachable-requires g c =
     seals_tell (seal_fault (is_head (shape_in st) parts c.args.table c.args.block) (body_at (shape_in st) parts c.args.table c.args.block))
     (body_at (shape_in st) parts c.args.table c.args.block).last c.make.result told c.in_default.not-Sealed c.in_default.not-NotSealed
 
-pub returns-in-Sealed-clause-session : goal.returns-in-Sealed-clause-session
-returns-in-Sealed-clause-session g c =
+pub returns-in-Sealed : goal.returns-in-Sealed
+returns-in-Sealed g c =
     let st = c.args.self.now in
     let s = c.args.session.now in
     let e : CoreEvent = event.Seal c.args.table c.args.block in
@@ -52,39 +52,20 @@ returns-in-Sealed-clause-session g c =
     let m = subst (λ (e : CoreEvent). Makes st s.session s.pass.seat c.make.new.pass.seat c.make.new.pass.hands (own_of s) e c.make.result) c.new-event.ensures
     (c.make.ensures s.session (own_of s) c.requires.session.stands (subst (IsOfSession s.session) (sym c.new-event.ensures) mine)) in
     let new : Session = record { pass = c.make.new.pass; session = s.session; snapshot = s.snapshot; writes = s.writes } in
-    (one_event st s new asked e c.make.result line c.requires.session refl m refl refl refl (λ made. refl)
-    (subst (λ (r : CoreReply). TellsLine (own_of s) asked r line) (sym c.in-Sealed.is) refl)).0
+    let both = one_event st s new asked e c.make.result line c.requires.session refl m refl refl refl (λ made. refl)
+    (subst (λ (r : CoreReply). TellsLine (own_of s) asked r line) (sym c.in-Sealed.is) refl) in
+    let count = m.count in
+    record {
+      session = both.0;
+      same = refl;
+      answers = both.1;
+      leaves = call_leaves st s new asked line c.requires.session both.0 refl both.1
+          (λ made. seal_asks (shape_in st) (own_after (own_in (shape_in st) s.session (seen s))) s.session made c.args.table c.args.block);
+      few = omega (arith, count);
+    }
 
-pub returns-in-Sealed-clause-answers : goal.returns-in-Sealed-clause-answers
-returns-in-Sealed-clause-answers g c =
-    let st = c.args.self.now in
-    let s = c.args.session.now in
-    let e : CoreEvent = event.Seal c.args.table c.args.block in
-    let mine : IsOfSession s.session e = inr refl in
-    let asked = command.Seal c.args.table c.args.block in
-    let line = said.Sealed c.args.table c.args.block c.in-Sealed.stamp in
-    let m = subst (λ (e : CoreEvent). Makes st s.session s.pass.seat c.make.new.pass.seat c.make.new.pass.hands (own_of s) e c.make.result) c.new-event.ensures
-    (c.make.ensures s.session (own_of s) c.requires.session.stands (subst (IsOfSession s.session) (sym c.new-event.ensures) mine)) in
-    let new : Session = record { pass = c.make.new.pass; session = s.session; snapshot = s.snapshot; writes = s.writes } in
-    (one_event st s new asked e c.make.result line c.requires.session refl m refl refl refl (λ made. refl)
-    (subst (λ (r : CoreReply). TellsLine (own_of s) asked r line) (sym c.in-Sealed.is) refl)).1
-
-pub returns-in-NotSealed-clause-session : goal.returns-in-NotSealed-clause-session
-returns-in-NotSealed-clause-session g c =
-    let st = c.args.self.now in
-    let s = c.args.session.now in
-    let e : CoreEvent = event.Seal c.args.table c.args.block in
-    let mine : IsOfSession s.session e = inr refl in
-    let asked = command.Seal c.args.table c.args.block in
-    let line = said.NotSealed (cause_told c.in-NotSealed.fault) in
-    let m = subst (λ (e : CoreEvent). Makes st s.session s.pass.seat c.make.new.pass.seat c.make.new.pass.hands (own_of s) e c.make.result) c.new-event.ensures
-    (c.make.ensures s.session (own_of s) c.requires.session.stands (subst (IsOfSession s.session) (sym c.new-event.ensures) mine)) in
-    let new : Session = record { pass = c.make.new.pass; session = s.session; snapshot = s.snapshot; writes = s.writes } in
-    (one_event st s new asked e c.make.result line c.requires.session refl m refl refl refl (λ made. refl)
-    (subst (λ (r : CoreReply). TellsLine (own_of s) asked r line) (sym c.in-NotSealed.is) refl)).0
-
-pub returns-in-NotSealed-clause-answers : goal.returns-in-NotSealed-clause-answers
-returns-in-NotSealed-clause-answers g c =
+pub returns-in-NotSealed : goal.returns-in-NotSealed
+returns-in-NotSealed g c =
     let st = c.args.self.now in
     let s = c.args.session.now in
     let e : CoreEvent = event.Seal c.args.table c.args.block in
@@ -94,31 +75,14 @@ returns-in-NotSealed-clause-answers g c =
     let m = subst (λ (e : CoreEvent). Makes st s.session s.pass.seat c.make.new.pass.seat c.make.new.pass.hands (own_of s) e c.make.result) c.new-event.ensures
     (c.make.ensures s.session (own_of s) c.requires.session.stands (subst (IsOfSession s.session) (sym c.new-event.ensures) mine)) in
     let new : Session = record { pass = c.make.new.pass; session = s.session; snapshot = s.snapshot; writes = s.writes } in
-    (one_event st s new asked e c.make.result line c.requires.session refl m refl refl refl (λ made. refl)
-    (subst (λ (r : CoreReply). TellsLine (own_of s) asked r line) (sym c.in-NotSealed.is) refl)).1
-
-pub returns-in-Sealed-clause-leaves : goal.returns-in-Sealed-clause-leaves
-returns-in-Sealed-clause-leaves g c =
-    let st = c.args.self.now in
-    let s = c.args.session.now in
-    call_leaves st s _ (command.Seal c.args.table c.args.block) _ c.requires.session (returns-in-Sealed-clause-session g c) refl (returns-in-Sealed-clause-answers g c)
-    (λ made. seal_asks (shape_in st) (own_after (own_in (shape_in st) s.session (seen s))) s.session made c.args.table c.args.block)
-
-pub returns-in-Sealed-clause-few : goal.returns-in-Sealed-clause-few
-returns-in-Sealed-clause-few g c =
-    let s = c.args.session.now in
-    let new : Session = record { pass = c.make.new.pass; session = s.session; snapshot = s.snapshot; writes = s.writes } in
-    call_few c.args.self.now s new (command.Seal c.args.table c.args.block) _ 1 (returns-in-Sealed-clause-answers g c) (λ made. omega arith)
-
-pub returns-in-NotSealed-clause-leaves : goal.returns-in-NotSealed-clause-leaves
-returns-in-NotSealed-clause-leaves g c =
-    let st = c.args.self.now in
-    let s = c.args.session.now in
-    call_leaves st s _ (command.Seal c.args.table c.args.block) _ c.requires.session (returns-in-NotSealed-clause-session g c) refl (returns-in-NotSealed-clause-answers g c)
-    (λ made. seal_asks (shape_in st) (own_after (own_in (shape_in st) s.session (seen s))) s.session made c.args.table c.args.block)
-
-pub returns-in-NotSealed-clause-few : goal.returns-in-NotSealed-clause-few
-returns-in-NotSealed-clause-few g c =
-    let s = c.args.session.now in
-    let new : Session = record { pass = c.make.new.pass; session = s.session; snapshot = s.snapshot; writes = s.writes } in
-    call_few c.args.self.now s new (command.Seal c.args.table c.args.block) _ 1 (returns-in-NotSealed-clause-answers g c) (λ made. omega arith)
+    let both = one_event st s new asked e c.make.result line c.requires.session refl m refl refl refl (λ made. refl)
+    (subst (λ (r : CoreReply). TellsLine (own_of s) asked r line) (sym c.in-NotSealed.is) refl) in
+    let count = m.count in
+    record {
+      session = both.0;
+      same = refl;
+      answers = both.1;
+      leaves = call_leaves st s new asked line c.requires.session both.0 refl both.1
+          (λ made. seal_asks (shape_in st) (own_after (own_in (shape_in st) s.session (seen s))) s.session made c.args.table c.args.block);
+      few = omega (arith, count);
+    }
