@@ -2,13 +2,14 @@
 use Rattle.std.specs.Prelude.{ℕ, ◌+◌, ◌<◌, ◌^◌, Bool, not, ◌||◌, ◌&&◌, nat_lt, List, [], length}
 use Rattle.std.specs.Prelude.{flat_map, ℤ}
 use Rattle.std.specs.List.{slice_index_or}
-use Rattle.arrow_spec.specs.Arrays.{Layout, fixed, boolean, variable, layout_of, truth_of}
+use Rattle.arrow_spec.specs.Arrays.{Layout, fixed, boolean, variable, strip, layout_in, truth_of}
 use Rattle.arrow_spec.specs.Batches.{Array}
 use Rattle.arrow_spec.specs.Bytes.{number_bytes}
-use Rattle.cell_model.specs.Values.{is_null, is_value_of, byte_length, most_bytes}
+use Rattle.cell_model.specs.Kinds.{most_bytes_in}
+use Rattle.cell_model.specs.Values.{is_null, is_value_in, byte_length}
 use Rattle.cell_model.specs.declared.cell.Cell.{Cell}
 use Rattle.cell_model.specs.declared.cell.Cell.TheVariants.{Null}
-use Rattle.cell_model.specs.declared.kind.Kind.{Kind}
+use Rattle.cell_model.specs.declared.values.Values.{Values}
 use Rattle.arrow_array.specs.declared.bitmaps.Bit.{Bit}
 use Rattle.arrow_array.specs.declared.bitmaps.Bit.TheVariants as bit
 
@@ -27,10 +28,10 @@ AreFew arrays = length arrays + length (flat_map (λ array. array.buffers) array
 abbrev pub cell_at : ℕ → List Cell → Cell
 cell_at place row = slice_index_or row place Null
 
--- the cell is null, or a value of the kind that is not too long
-abbrev pub is_slot_of : Kind → Cell → Bool
-is_slot_of kind cell = is_null cell
-    || (is_value_of kind cell && not (nat_lt most_bytes (byte_length cell)))
+-- the cell is null, or one of the values that is not too long
+abbrev pub is_slot_of : Values → Cell → Bool
+is_slot_of values cell = is_null cell
+    || (is_value_in values cell && not (nat_lt (most_bytes_in values) (byte_length cell)))
 
 -- What a bit of a bitmap tells of a cell: that it is not null, or its truth value (Arrow columnar
 -- format, "Validity bitmaps" and "Fixed-size Primitive Layout").
@@ -43,8 +44,9 @@ bit_of bit.Truth cell = truth_of cell
 abbrev pub bytes_in : Layout → ℤ → List ℕ
 bytes_in (fixed width) number = number_bytes width number
 bytes_in boolean number = []
-bytes_in variable number = []
+bytes_in (variable width) number = []
+bytes_in (strip bytes) number = []
 
--- a number as a value of a kind
-abbrev pub kind_bytes : Kind → ℤ → List ℕ
-kind_bytes kind number = bytes_in (layout_of kind) number
+-- a number as one of the values
+abbrev pub value_bytes : Values → ℤ → List ℕ
+value_bytes values number = bytes_in (layout_in values) number

@@ -1,17 +1,18 @@
 //! Rows, column by column, as a record batch (Arrow columnar format, "RecordBatch message").
 ghost use Rattle.std.specs.Prelude.{◌≡◌, ◌≤◌, ◌↔◌, ◌<◌, ◌^◌, ◌++◌, All, IfOk, IsTrue, OnOk, length};
 ghost use Rattle.std.specs.Prelude.{◌==◌};
-ghost use Rattle.arrow_spec.specs.Arrays.{column_buffers, data_buffers, layout_of, null_count};
+ghost use Rattle.arrow_spec.specs.Arrays.{column_buffers, data_buffers, layout_in, null_count};
 ghost use Rattle.arrow_spec.specs.Arrays.{validity};
 ghost use Rattle.arrow_spec.specs.Batches.{arrays_of, column_cells};
+ghost use Rattle.cell_model.specs.Kinds.{values_of};
 ghost use Rattle.cell_model.specs.Rows.{Fits};
 ghost use Rattle.arrow_array.specs.Batches.{cell_at, is_slot_of};
 
 use crate::batch::{Array, Batch};
 use crate::bitmaps::{Bit, bitmap};
 use crate::cells::null_count;
-use crate::values::{numbers, offsets, values};
-use cell_model::{Buffers, Bytes, Kind, Row, Schema};
+use crate::values::{all_values, numbers, offsets, strips};
+use cell_model::{Buffers, Bytes, Kind, Row, Schema, Values};
 use std::alloc::{AllocError, Global};
 
 /// The batch of these rows (Arrow columnar format, "RecordBatch message").
@@ -43,7 +44,7 @@ pub fn all_fit(schema: &Schema, rows: &[Row]) -> bool
 /// The column of a kind of the rows' cells at a place.
 fn array(alloc: Global, kind: Kind, place: usize, rows: &[Row]) -> Result<Array, AllocError>
     requires few { length rows.now ≤ 2 ^ 15 }
-    requires fits { All (λ row. IsTrue (is_slot_of kind (cell_at place row))) rows.now }
+    requires fits { All (λ row. IsTrue (is_slot_of (values_of kind) (cell_at place row))) rows.now }
     ensures { IfOk result (λ array. array ≡ record {
       nulls = null_count (column_cells place rows.now);
       buffers = column_buffers kind (column_cells place rows.now);
@@ -52,7 +53,7 @@ fn array(alloc: Global, kind: Kind, place: usize, rows: &[Row]) -> Result<Array,
     let nulls = null_count(place, rows);
     let mut buffers = Vec::with_capacity(alloc, 3)?;
     buffers.push(Bytes::from(validity(alloc, nulls, place, rows)?))?;
-    add_data(alloc, &mut buffers, kind, place, rows)?;
+    add_data(alloc, &mut buffers, &kind.values(), place, rows)?;
     Ok(Array::new(nulls, Buffers::from(buffers)))
 }
 
@@ -73,32 +74,28 @@ fn validity(alloc: Global, nulls: u32, place: usize, rows: &[Row]) -> Result<Vec
 fn add_data(
     alloc: Global,
     buffers: &mut Vec<Bytes>,
-    kind: Kind,
+    values: &Values,
     place: usize,
     rows: &[Row],
 ) -> Result<(), AllocError>
     requires few { length rows.now ≤ 2 ^ 15 }
-    requires fits { All (λ row. IsTrue (is_slot_of kind (cell_at place row))) rows.now }
+    requires fits { All (λ row. IsTrue (is_slot_of values.now (cell_at place row))) rows.now }
     ensures { OnOk result (buffers.new.items
-        ≡ buffers.old.items ++ data_buffers (layout_of kind) (column_cells place rows.now)) }
+        ≡ buffers.old.items ++ data_buffers (layout_in values.now) (column_cells place rows.now)) }
 {
-    match kind {
-        Kind::Bool => {
+    match values {
+        Values::Signed(_) | Values::Unsigned(_) => {
+            buffers.push(Bytes::from(numbers(alloc, values, place, rows)?))?;
+        }
+        Values::Truths => {
             buffers.push(Bytes::from(bitmap(alloc, Bit::Truth, place, rows)?))?;
         }
-        Kind::Utf8 | Kind::Binary => {
-            buffers.push(Bytes::from(offsets(alloc, place, rows)?))?;
-            buffers.push(Bytes::from(values(alloc, place, rows)?))?;
+        Values::Texts(width) | Values::Blobs(width) => {
+            buffers.push(Bytes::from(offsets(alloc, *width, place, rows)?))?;
+            buffers.push(Bytes::from(all_values(alloc, place, rows)?))?;
         }
-        Kind::I8
-        | Kind::I16
-        | Kind::I32
-        | Kind::I64
-        | Kind::U8
-        | Kind::U16
-        | Kind::U32
-        | Kind::U64 => {
-            buffers.push(Bytes::from(numbers(alloc, kind, place, rows)?))?;
+        Values::Strips(width) => {
+            buffers.push(Bytes::from(strips(alloc, *width, place, rows)?))?;
         }
     }
     Ok(())

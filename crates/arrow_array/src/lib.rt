@@ -10,4 +10,4 @@ mod values;
 
 pub use arrays::{all_fit, build};
 pub use batch::{Array, Batch};
-pub use numbers::add_u32;
+pub use numbers::{add_offset, add_u32};

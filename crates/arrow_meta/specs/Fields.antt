@@ -7,9 +7,8 @@ abbrev pub field_of : FieldTable → Field
 field_of field = record {
   name = field.name.now;
   nullable = field.nullable;
-  type_type = field.type_type;
-  type' = field.type_place;
+  type_place = field.type_place;
   dictionary = field.dictionary;
   children = field.children;
-  int = field.int;
+  type' = field.arrow_type;
 }

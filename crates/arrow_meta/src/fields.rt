@@ -1,11 +1,11 @@
 //! The fields of a flatbuffer's table: numbers, references, vectors and texts. An absent number is
 //! 0, an absent vector has no element and an absent text is empty.
 ghost use Rattle.std.specs.Prelude.{◌≡◌, ◌+◌, ◌*◌, ◌≤◌, IfOk, MatchResult, Ok, Err, length};
-ghost use Rattle.stream_spec.specs.Metadata.{elements, int_table_of, reference, scalar, text};
+ghost use Rattle.stream_spec.specs.Metadata.{elements, reference, scalar, text};
 
 use flat_read::{FlatFault, field, follow, number, text as text_at, vector};
 use std::alloc::{AllocError, AllocFailed};
-use stream_spec::{Elements, IntTable, MetaFault};
+use stream_spec::{Elements, MetaFault};
 
 /// Why a message's metadata was not read.
 #[derive(Clone, Copy, Debug)]
@@ -109,22 +109,4 @@ pub fn text(bytes: &[u8], table: u64, index: u16) -> Result<&[u8], FlatFault>
         Some(place) => text_at(bytes, place),
         None => Ok(&[]),
     }
-}
-
-/// What an Int table says, where there is one.
-pub fn int_table(bytes: &[u8], table: Option<u64>) -> Result<IntTable, FlatFault>
-    ensures { result ≡ int_table_of bytes.now table }
-{
-    let Some(table) = table else {
-        return Ok(IntTable {
-            bits: 0,
-            is_signed: false,
-        });
-    };
-    let bits = scalar(bytes, table, 0, 4)?;
-    let is_signed = scalar(bytes, table, 1, 1)?;
-    Ok(IntTable {
-        bits,
-        is_signed: is_signed != 0,
-    })
 }

@@ -9,6 +9,7 @@ mod fields;
 mod heads;
 mod message;
 mod schemas;
+mod types;
 
 pub use batches::{BatchMeta, read_batch};
 pub use fields::NotRead;

@@ -2,15 +2,17 @@
 ghost use Rattle.std.specs.Prelude.{◌≡◌, ◌+◌, ◌*◌, IfOk, IsErrOf, MatchResult, Ok, Err};
 ghost use Rattle.std.specs.Str.{is_utf8};
 ghost use Rattle.arrow_meta.specs.Fields.{field_of};
-ghost use Rattle.stream_spec.specs.Metadata.{column_at, columns_at, field_table_at, int_of_type};
-ghost use Rattle.stream_spec.specs.Metadata.{kind_of_field, kind_of_type, schema_table_at};
+ghost use Rattle.stream_spec.specs.Metadata.{column_at, columns_at, field_table_at, kind_of_field};
+ghost use Rattle.stream_spec.specs.Metadata.{schema_table_at};
 ghost use Rattle.stream_spec.specs.declared.fault.MetaFault.{MetaFault as MetaFaultValue};
 
-use crate::fields::{NotRead, elements, int_table, scalar, text};
+use crate::fields::{NotRead, elements, scalar, text};
+use crate::types::{kind_of_type, type_at};
+use arrow_spec::ArrowType;
 use cell_model::{Bytes, Column, Kind};
 use flat_read::{FlatFault, field, follow};
 use std::alloc::Global;
-use stream_spec::{IntTable, MetaFault, SchemaTable};
+use stream_spec::{MetaFault, SchemaTable};
 
 /// The columns of the schema whose table stands at this place of the metadata; or the first fault,
 /// from the first column on: the metadata's form, big-endian numbers, no field; then each column's
@@ -51,11 +53,10 @@ fn schema_table(bytes: &[u8], table: u64) -> Result<SchemaTable, FlatFault>
 struct FieldTable<'a> {
     name: &'a [u8],
     nullable: bool,
-    type_type: u64,
     type_place: Option<u64>,
     dictionary: bool,
     children: u64,
-    int: IntTable,
+    arrow_type: ArrowType,
 }
 
 /// The column of the field whose reference stands at this place.
@@ -85,26 +86,15 @@ fn field_table(bytes: &[u8], table: u64) -> Result<FieldTable<'_>, FlatFault>
     let type_place = field(bytes, table, 3)?;
     let dictionary = field(bytes, table, 4)?;
     let children = elements(bytes, table, 5, 4)?;
-    let int = int_of_type(bytes, type_type, type_place)?;
+    let arrow_type = type_at(bytes, type_type, type_place)?;
     Ok(FieldTable {
         name,
         nullable: nullable != 0,
-        type_type,
         type_place,
         dictionary: dictionary.is_some(),
         children: children.count,
-        int,
+        arrow_type,
     })
-}
-
-/// The Int table of a field's type; the references of other types are not followed.
-fn int_of_type(bytes: &[u8], type_type: u64, place: Option<u64>) -> Result<IntTable, FlatFault>
-    ensures { result ≡ int_of_type bytes.now type_type place }
-{
-    match place {
-        Some(place) if type_type == 2 => int_table(bytes, Some(follow(bytes, place)?)),
-        _ => int_table(bytes, None),
-    }
 }
 
 /// The kind of a field's values, or the first fault of the field.
@@ -117,7 +107,7 @@ fn kind_of_field(field: &FieldTable<'_>) -> Result<Kind, MetaFault>
     if field.dictionary {
         return Err(MetaFault::Dictionary);
     }
-    let Some(kind) = kind_of_type(field.type_type, field.int) else {
+    let Some(kind) = kind_of_type(field.arrow_type) else {
         return Err(MetaFault::Kind);
     };
     if field.type_place.is_none() {
@@ -136,25 +126,5 @@ fn is_utf8(bytes: &[u8]) -> bool
     match str::from_utf8(bytes) {
         Ok(_) => true,
         Err(_) => false,
-    }
-}
-
-/// The kind whose type has this number and this Int table.
-fn kind_of_type(type_type: u64, int: IntTable) -> Option<Kind>
-    ensures { result ≡ kind_of_type type_type int }
-{
-    match (type_type, int.bits, int.is_signed) {
-        (2, 8, true) => Some(Kind::I8),
-        (2, 16, true) => Some(Kind::I16),
-        (2, 32, true) => Some(Kind::I32),
-        (2, 64, true) => Some(Kind::I64),
-        (2, 8, false) => Some(Kind::U8),
-        (2, 16, false) => Some(Kind::U16),
-        (2, 32, false) => Some(Kind::U32),
-        (2, 64, false) => Some(Kind::U64),
-        (4, _, _) => Some(Kind::Binary),
-        (5, _, _) => Some(Kind::Utf8),
-        (6, _, _) => Some(Kind::Bool),
-        _ => None,
     }
 }

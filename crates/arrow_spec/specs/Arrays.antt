@@ -1,29 +1,35 @@
 -- A column's values as the buffers of an Arrow array.
-use Rattle.std.specs.Prelude.{ℕ, ◌+◌, Bool, false, not, ◌==◌, if◌then◌else◌, List, [], ◌∷◌, map}
-use Rattle.std.specs.Prelude.{length, ℤ, pos, count_by, flat_map}
-use Rattle.std.specs.Int.{Width, w32, to_le_bytes}
-use Rattle.cell_model.specs.Kinds.{Values, signed, unsigned, truths, texts, blobs, values_of}
+use Rattle.std.specs.Prelude.{ℕ, ◌+◌, Bool, false, not, ◌==◌, if◌then◌else◌, List, [], ◌∷◌, ◌++◌}
+use Rattle.std.specs.Prelude.{length, map, take, replicate, ℤ, pos, count_by, flat_map}
+use Rattle.std.specs.Int.{Width, to_le_bytes}
+use Rattle.cell_model.specs.Kinds.{values_of}
 use Rattle.cell_model.specs.Values.{is_null}
+use Rattle.cell_model.specs.Widths.{number_width, offset_width}
 use Rattle.cell_model.specs.declared.cell.Cell.{Cell}
 use Rattle.cell_model.specs.declared.cell.Cell.TheVariants.{Num, Truth, Text, Blob}
 use Rattle.cell_model.specs.declared.kind.Kind.{Kind}
+use Rattle.cell_model.specs.declared.values.Values.{Values}
+use Rattle.cell_model.specs.declared.values.Values.TheVariants.{Signed, Unsigned, Truths}
+use Rattle.cell_model.specs.declared.values.Values.TheVariants.{Texts, Blobs, Strips}
 use Rattle.arrow_spec.specs.Bytes.{bitmap, number_bytes}
 
--- How values lie in buffers: numbers of a width one after another, truth values in a bitmap, or
--- texts and bytes of any length between offsets (Arrow columnar format, "Fixed-size Primitive
--- Layout", "Variable-size Binary Layout").
+-- How values lie in buffers: numbers of a width one after another, truth values in a bitmap, texts
+-- and bytes of any length between offsets of a width, or values of so many bytes one after another
+-- (Arrow columnar format, "Fixed-size Primitive Layout", "Variable-size Binary Layout").
 pub data Layout : Type 0 where
   fixed : Width → Layout
   boolean : Layout
-  variable : Layout
+  variable : Width → Layout
+  strip : ℕ → Layout
 
 -- the layout of each sort of values
 abbrev pub layout_in : Values → Layout
-layout_in (signed width) = fixed width
-layout_in (unsigned width) = fixed width
-layout_in truths = boolean
-layout_in texts = variable
-layout_in blobs = variable
+layout_in (Signed width) = fixed (number_width width)
+layout_in (Unsigned width) = fixed (number_width width)
+layout_in Truths = boolean
+layout_in (Texts width) = variable (offset_width width)
+layout_in (Blobs width) = variable (offset_width width)
+layout_in (Strips bytes) = strip bytes
 
 -- the layout of a kind's values
 abbrev pub layout_of : Kind → Layout
@@ -62,12 +68,17 @@ abbrev pub offsets : ℕ → List Cell → List ℕ
 offsets from [] = from ∷ []
 offsets from (cell ∷ cells) = from ∷ offsets (from + length (value_of cell)) cells
 
--- the buffers behind the validity: one of data, or 32-bit offsets from 0 and the values
+-- so many bytes for a cell: those of its value, and a null slot holds zeros
+abbrev pub strip_of : ℕ → Cell → List ℕ
+strip_of bytes cell = take bytes (value_of cell ++ replicate bytes 0)
+
+-- the buffers behind the validity: one of data, or offsets from 0 and the values
 abbrev pub data_buffers : Layout → List Cell → List (List ℕ)
 data_buffers (fixed width) cells = flat_map (λ cell. number_bytes width (number_of cell)) cells ∷ []
 data_buffers boolean cells = bitmap (map truth_of cells) ∷ []
-data_buffers variable cells = flat_map (to_le_bytes w32) (offsets 0 cells) ∷ flat_map value_of cells
-    ∷ []
+data_buffers (variable width) cells = flat_map (to_le_bytes width) (offsets 0 cells)
+    ∷ flat_map value_of cells ∷ []
+data_buffers (strip bytes) cells = flat_map (strip_of bytes) cells ∷ []
 
 -- The buffers of a column of this kind with these cells: the validity, then the data
 -- (Arrow columnar format, "Buffer Listing for Each Layout").

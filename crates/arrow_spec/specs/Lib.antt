@@ -5,3 +5,4 @@ pub mod Flatbuffers
 pub mod Metadata
 pub mod Streams
 pub mod Examples
+pub mod LaterKinds

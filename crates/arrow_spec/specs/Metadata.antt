@@ -1,10 +1,13 @@
 -- The metadata of Arrow's messages, as flatbuffers. Field numbers, places and the numbers of types
 -- are those of the public schemas Message.fbs and Schema.fbs.
-use Rattle.std.specs.Prelude.{ℕ, ◌*◌, List, [], ◌∷◌, map, ℤ}
-use Rattle.std.specs.Int.{w8, w16, w32, w64, byte_len, from_bool}
-use Rattle.cell_model.specs.Kinds.{Values, signed, unsigned, truths, texts, blobs, values_of}
+use Rattle.std.specs.Prelude.{ℕ, ◌^◌, ◌<◌, List, [], ◌∷◌, map, ℤ}
+use Rattle.std.specs.Int.{w8, w16, w32, w64, from_bool}
 use Rattle.cell_model.specs.declared.column.Column.{Column}
 use Rattle.cell_model.specs.declared.kind.Kind.{Kind}
+use Rattle.cell_model.specs.declared.kind.Kind.TheVariants as kind
+use Rattle.arrow_spec.specs.declared.types.ArrowType.{ArrowType}
+use Rattle.arrow_spec.specs.declared.types.ArrowType.TheVariants.{SignedInt, UnsignedInt, Date}
+use Rattle.arrow_spec.specs.declared.types.ArrowType.TheVariants.{FixedSizeBinary, Plain}
 use Rattle.arrow_spec.specs.Flatbuffers.{Object, number, reference, absent, table, string}
 use Rattle.arrow_spec.specs.Flatbuffers.{vector_of_pairs, vector_of_tables, flatbuffer}
 
@@ -14,37 +17,64 @@ pub data Header : Type 0 where
   schema : List Column → Header
   record_batch : ℕ → List (ℤ × ℤ) → List (ℤ × ℤ) → Header
 
+-- The table of types: that of each kind's values. Binary has the number 4, Utf8 5, Bool 6,
+-- LargeBinary 19 and LargeUtf8 20; a date's unit of days is 0.
+abbrev pub type_of : Kind → ArrowType
+type_of kind.I8 = SignedInt 8
+type_of kind.I16 = SignedInt 16
+type_of kind.I32 = SignedInt 32
+type_of kind.I64 = SignedInt 64
+type_of kind.U8 = UnsignedInt 8
+type_of kind.U16 = UnsignedInt 16
+type_of kind.U32 = UnsignedInt 32
+type_of kind.U64 = UnsignedInt 64
+type_of kind.Bool = Plain 6
+type_of kind.Utf8 = Plain 5
+type_of kind.Binary = Plain 4
+type_of kind.LargeUtf8 = Plain 20
+type_of kind.LargeBinary = Plain 19
+type_of (kind.Fixed bytes) = FixedSizeBinary bytes
+type_of kind.Date = Date 0
+
 -- Int: bit_width, is_signed.
 abbrev pub int_table : ℕ → ℕ → Object
 int_table bit_width is_signed = table 9 (number 4 w32 bit_width ∷ number 8 w8 is_signed ∷ [])
 
--- Bool, Utf8 and Binary have no fields.
+-- FixedSizeBinary: byte_width.
+abbrev pub fixed_table : ℕ → Object
+fixed_table byte_width = table 8 (number 4 w32 byte_width ∷ [])
+
+-- Date: unit (days are 0).
+abbrev pub date_table : ℕ → Object
+date_table unit = table 6 (number 4 w16 unit ∷ [])
+
+-- Other types have no fields.
 abbrev pub empty_table : Object
 empty_table = table 4 []
 
--- the table of the type of each sort of values
-abbrev pub type_table_in : Values → Object
-type_table_in (signed width) = int_table (8 * byte_len width) 1
-type_table_in (unsigned width) = int_table (8 * byte_len width) 0
-type_table_in truths = empty_table
-type_table_in texts = empty_table
-type_table_in blobs = empty_table
+-- the table of a type
+abbrev pub table_of_type : ArrowType → Object
+table_of_type (SignedInt bits) = int_table bits 1
+table_of_type (UnsignedInt bits) = int_table bits 0
+table_of_type (FixedSizeBinary bytes) = fixed_table bytes
+table_of_type (Date unit) = date_table unit
+table_of_type (Plain id) = empty_table
 
--- the table of a kind's type
-abbrev pub type_table : Kind → Object
-type_table kind = type_table_in (values_of kind)
+-- the number of a type in the union of types: Int 2, Date 8, FixedSizeBinary 15
+abbrev pub number_of_type : ArrowType → ℕ
+number_of_type (SignedInt bits) = 2
+number_of_type (UnsignedInt bits) = 2
+number_of_type (FixedSizeBinary bytes) = 15
+number_of_type (Date unit) = 8
+number_of_type (Plain id) = id
 
--- the number of each type in the union of types: Int 2, Binary 4, Utf8 5, Bool 6
-abbrev pub type_number_in : Values → ℕ
-type_number_in (signed width) = 2
-type_number_in (unsigned width) = 2
-type_number_in truths = 6
-type_number_in texts = 5
-type_number_in blobs = 4
-
--- the number of a kind's type
-abbrev pub type_number : Kind → ℕ
-type_number kind = type_number_in (values_of kind)
+-- each number of the type fits its field of the metadata
+abbrev pub FitsFields : ArrowType → Type 0
+FitsFields (SignedInt bits) = bits < 2 ^ 32
+FitsFields (UnsignedInt bits) = bits < 2 ^ 32
+FitsFields (FixedSizeBinary bytes) = bytes < 2 ^ 32
+FitsFields (Date unit) = unit < 2 ^ 16
+FitsFields (Plain id) = id < 2 ^ 8
 
 -- Field: name, nullable, type_type, type, dictionary (absent), children (none).
 abbrev pub field_table : Column → Object
@@ -52,8 +82,8 @@ field_table column =
     table 18
     (reference 4 (string column.name)
     ∷ number 16 w8 (from_bool column.nullable)
-    ∷ number 17 w8 (type_number column.kind)
-    ∷ reference 8 (type_table column.kind)
+    ∷ number 17 w8 (number_of_type (type_of column.kind))
+    ∷ reference 8 (table_of_type (type_of column.kind))
     ∷ absent
     ∷ reference 12 (vector_of_tables [])
     ∷ [])

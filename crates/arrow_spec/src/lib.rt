@@ -5,11 +5,13 @@
 //! definitions that is written out, or what holds of them all.
 #![tactic(auto)]
 
+pub mod types;
+
 ghost use Rattle.std.specs.Prelude.{◌≡◌, ◌++◌, ◌+◌, ◌*◌, ◌/◌, ◌%◌, ◌^◌, ◌-◌, ℕ, ℤ, pos, negsuc};
 ghost use Rattle.std.specs.Prelude.{Bool, true, false, if◌then◌else◌, List, [], ◌∷◌, length, drop};
 ghost use Rattle.std.specs.Prelude.{slice_index, slice_index_or, slice_range};
 ghost use Rattle.std.specs.Int.{bit_at};
-ghost use Rattle.cell_model.specs.declared.cell.Cell.TheVariants.{Null, Num, Truth};
+ghost use Rattle.cell_model.specs.declared.cell.Cell.TheVariants.{Null, Num, Truth, Text, Blob};
 ghost use Rattle.cell_model.specs.declared.kind.Kind.TheVariants as kind;
 ghost use Rattle.arrow_spec.specs.Arrays.{column_buffers};
 ghost use Rattle.arrow_spec.specs.Batches.{batch_of};
@@ -18,8 +20,11 @@ ghost use Rattle.arrow_spec.specs.Examples.{key_alone, key_and, mixed_columns, t
 ghost use Rattle.arrow_spec.specs.Examples.{three_texts, x_rows, nine_rows, mixed_rows};
 ghost use Rattle.arrow_spec.specs.Examples.{key_schema_bytes, three_keys_bytes};
 ghost use Rattle.arrow_spec.specs.Examples.{key_and_text_flatbuffer, three_texts_body, mixed_body};
+ghost use Rattle.arrow_spec.specs.LaterKinds.{later_bytes, later_columns, later_rows};
 ghost use Rattle.arrow_spec.specs.Metadata.{schema, record_batch, flatbuffer_of};
 ghost use Rattle.arrow_spec.specs.Streams.{schema_message, batch_message, end_word, stream_of};
+
+pub use types::ArrowType;
 
 /// Bits fill each byte from its lowest bit on: nine take two bytes, and the last seven bits are 0.
 pub fn nine_bits_take_two_bytes()
@@ -66,6 +71,19 @@ pub fn a_null_truth_value_is_a_zero_bit()
         ≡ (0x0d ∷ []) ∷ (0x09 ∷ []) ∷ [] }
 {}
 
+/// A null among values of so many bytes each is so many zero bytes.
+pub fn a_null_fixed_value_is_zero_bytes()
+    ensures { column_buffers (kind.Fixed 2) (Blob (0x0a ∷ 0xff ∷ []) ∷ Null ∷ [])
+        ≡ (0x01 ∷ []) ∷ (0x0a ∷ 0xff ∷ 0 ∷ 0 ∷ []) ∷ [] }
+{}
+
+/// The offsets of large texts and bytes have eight bytes each.
+pub fn large_offsets_have_64_bits()
+    ensures { column_buffers kind.LargeBinary (Blob (7 ∷ 8 ∷ []) ∷ Blob (9 ∷ []) ∷ [])
+        ≡ [] ∷ (0 ∷ 0 ∷ 0 ∷ 0 ∷ 0 ∷ 0 ∷ 0 ∷ 0 ∷ 2 ∷ 0 ∷ 0 ∷ 0 ∷ 0 ∷ 0 ∷ 0 ∷ 0
+        ∷ 3 ∷ 0 ∷ 0 ∷ 0 ∷ 0 ∷ 0 ∷ 0 ∷ 0 ∷ []) ∷ (7 ∷ 8 ∷ 9 ∷ []) ∷ [] }
+{}
+
 /// A column of texts without a slot has one offset.
 pub fn no_text_has_one_offset()
     ensures { column_buffers kind.Utf8 [] ≡ [] ∷ (0 ∷ 0 ∷ 0 ∷ 0 ∷ []) ∷ [] ∷ [] }
@@ -104,6 +122,8 @@ pub fn fields_tell_their_types()
         ∷ 0x08 ∷ 0x00 ∷ 0x00 ∷ 0x00 ∷ 0x00 ∷ 0x00 ∷ 0x00 ∷ 0x00
         ∷ [] }
     ensures binary { slice_index (flatbuffer_of (schema (key_and kind.Binary false)) 0) 185 ≡ 4 }
+    ensures large_binary { slice_index (flatbuffer_of (schema (key_and kind.LargeBinary false)) 0)
+        185 ≡ 19 }
 {}
 
 /// The table of an integer type, which stands at 208 for a second field, tells its width in bits,
@@ -183,4 +203,15 @@ pub fn nine_rows_in_two_batches_make_800_bytes()
         ∷ slice_index (stream_of (key_and kind.Utf8 true) nine_rows) 600
         ∷ []
         ≡ 4 ∷ 4 ∷ 4 ∷ [] }
+{}
+
+/// A row with a date, two bytes and a large text, and one with nulls: a body of 80 bytes behind 304
+/// of metadata, in a stream of 776 bytes.
+pub fn later_kinds_have_bytes()
+    ensures buffers { (batch_of later_columns later_rows).buffers
+        ≡ (pos 0, pos 0) ∷ (pos 0, pos 16) ∷ (pos 16, pos 1) ∷ (pos 24, pos 8) ∷ (pos 32, pos 1)
+        ∷ (pos 40, pos 4) ∷ (pos 48, pos 0) ∷ (pos 48, pos 24) ∷ (pos 72, pos 2) ∷ [] }
+    ensures batch { length (batch_message later_columns later_rows) ≡ 8 + 304 + 80 }
+    ensures bytes { stream_of later_columns (later_rows ∷ []) ≡ later_bytes }
+    ensures size { length later_bytes ≡ 776 }
 {}

@@ -1,5 +1,5 @@
 -- The columns of the table are named.
-use Rattle.std.proofs.Common.{◌≤◌, [], ◌∷◌, length, codes, arith}
+use Rattle.std.proofs.Common.{◌≡◌, ◌≤◌, [], ◌∷◌, length, codes, refl, arith}
 use Rattle.std.specs.Prelude.{true, false}
 use Rattle.std.specs.Str.{IsAscii}
 use Rattle.std.proofs.lemmas.List.Elements.{All-nil, All-cons}
@@ -7,6 +7,7 @@ use Rattle.std.proofs.lemmas.Str.{IsUtf8-from_ascii}
 use Rattle.std.proofs.lemmas.Str.Ascii.{IsAscii-cons}
 use Rattle.cell_model.specs.declared.column.Column.{Column}
 use Rattle.cell_model.specs.declared.kind.Kind.TheVariants.{I64, Utf8}
+use Rattle.cell_model.specs.Kinds.{has_width, values_of}
 use Rattle.cell_model.specs.Schemas.{AreNamed, IsName}
 use Rattle.bench_spec.specs.Generated.{bench_columns}
 
@@ -15,8 +16,8 @@ no_bytes : IsAscii []
 no_bytes = λ i. omega arith
 
 -- A column with a short name of ASCII is named.
-named : (column : Column) → IsAscii column.name → length column.name ≤ 100 → IsName column
-named column ascii few = (IsUtf8-from_ascii column.name ascii, omega (arith, few))
+named : (column : Column) → IsAscii column.name → length column.name ≤ 100 → has_width (values_of column.kind) ≡ true → IsName column
+named column ascii few wide = (IsUtf8-from_ascii column.name ascii, omega (arith, few), wide)
 
 -- the key of a row
 abbrev pub key : Column
@@ -33,7 +34,7 @@ text = record { name = codes "t"; kind = Utf8; nullable = true }
 -- the columns of the table are named
 pub columns_named : AreNamed bench_columns
 columns_named = record {
-  each = All-cons IsName key (number ∷ text ∷ []) (named key (IsAscii-cons 107 (101 ∷ 121 ∷ []) (omega arith) (IsAscii-cons 101 (121 ∷ []) (omega arith) (IsAscii-cons 121 [] (omega arith) no_bytes))) (omega arith))
-      (All-cons IsName number (text ∷ []) (named number (IsAscii-cons 110 [] (omega arith) no_bytes) (omega arith))
-      (All-cons IsName text [] (named text (IsAscii-cons 116 [] (omega arith) no_bytes) (omega arith)) (All-nil IsName)));
+  each = All-cons IsName key (number ∷ text ∷ []) (named key (IsAscii-cons 107 (101 ∷ 121 ∷ []) (omega arith) (IsAscii-cons 101 (121 ∷ []) (omega arith) (IsAscii-cons 121 [] (omega arith) no_bytes))) (omega arith) refl)
+      (All-cons IsName number (text ∷ []) (named number (IsAscii-cons 110 [] (omega arith) no_bytes) (omega arith) refl)
+      (All-cons IsName text [] (named text (IsAscii-cons 116 [] (omega arith) no_bytes) (omega arith) refl) (All-nil IsName)));
 }

@@ -14,7 +14,8 @@ use Rattle.cell_model.specs.declared.cell.Cell.TheVariants.{Null, Num, Text}
 use Rattle.cell_model.specs.declared.kind.Kind.TheVariants.{I64}
 use Rattle.cell_model.specs.declared.row.RowFault.TheVariants.{RangeAt}
 use Rattle.cell_model.specs.Rows.{cell_fault, fits}
-use Rattle.cell_model.specs.Values.{is_integer_of, most_bytes}
+use Rattle.cell_model.specs.Values.{is_integer_of}
+use Rattle.cell_model.specs.Widths.{most_bytes}
 use Rattle.bench_spec.specs.Draws.{draw, state_after}
 use Rattle.bench_spec.specs.Generated.{bench_columns, number_of, row_of, text_of}
 use Rattle.bench_script.proofs.Columns.{key, number, text}

@@ -1,7 +1,6 @@
 -- What holds of every generated workload.
 use Rattle.std.specs.Prelude.{◌≡◌, ◌<◌, ◌≤◌, ◌^◌, ℕ, true, length, Ok}
-use Rattle.workload_spec.specs.Extents.{whole}
-use Rattle.workload_spec.specs.Grammar.{read_with}
+use Rattle.workload_spec.specs.Grammar.{script_of}
 use Rattle.workload_spec.specs.ScriptText.{script_text}
 use Rattle.workload_spec.specs.Valid.{is_valid}
 use Rattle.bench_spec.specs.Generated.{generated}
@@ -17,7 +16,7 @@ GeneratesWorkloads = (seed size : ℕ) → size ≤ most_size → is_valid (gene
 -- Its text is read as it.
 abbrev pub TextsAreRead : Type 0
 TextsAreRead = (seed size : ℕ) → size ≤ most_size
-    → read_with whole (script_text (generated seed size)) ≡ Ok (generated seed size)
+    → script_of (script_text (generated seed size)) ≡ Ok (generated seed size)
 
 -- Its text is short.
 abbrev pub TextsAreShort : Type 0

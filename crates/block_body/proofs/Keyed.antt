@@ -27,6 +27,10 @@ i64_is kind.U64 is = cc
 i64_is kind.Bool is = cc
 i64_is kind.Utf8 is = cc
 i64_is kind.Binary is = cc
+i64_is kind.LargeUtf8 is = cc
+i64_is kind.LargeBinary is = cc
+i64_is (kind.Fixed bytes) is = cc
+i64_is kind.Date is = cc
 
 -- Where neither a first fault nor one behind it is found, the first is none.
 first_none : (a rest : Option RowFault) → cond (is_none a) rest a ≡ None → a ≡ None

@@ -65,7 +65,8 @@ LaysBack row (e ∷ es) = WantsRow e.before row × LaysBack (laid_back row e.bef
 
 -- The entries of a slot can be laid back on its row: it has memory where it has an entry, and what
 -- they lay back fits.
-pub record IsKept (rows : RowsValue) (slot : ℕ) (row : Option Row) (entries : List (Undo Before)) : Type 0 where
+pub record IsKept (rows : RowsValue) (slot : ℕ) (row : Option Row)
+    (entries : List (Undo Before)) : Type 0 where
   pub room : 0 < length entries → slot < rows.room
   pub within : 0 < length entries → slot < length rows.rows
   pub fits : All (λ undo. BeforeFits rows.columns undo.before) entries

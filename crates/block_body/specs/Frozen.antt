@@ -5,7 +5,8 @@ use Rattle.block_columns.specs.Images.{FormValue, ImageValue, IsFormOf}
 use Rattle.cell_model.specs.declared.column.Column.{Column}
 
 -- It has the columns and the slots, and the Arrow form of all rows.
-pub record IsImageOf (columns : List Column) (slots : List (Option Row)) (image : ImageValue) : Type 0 where
+pub record IsImageOf (columns : List Column) (slots : List (Option Row))
+    (image : ImageValue) : Type 0 where
   pub columns_are : image.columns ≡ columns
   pub slots_are : image.slots ≡ slots
   pub rows : image.rows ≡ count_by is_some slots

@@ -31,6 +31,7 @@ IsEither None (Some i) = Unit {0}
 IsEither None None = ⊥
 
 -- One of the two is there, and so many of its slots have a row.
-pub record IsOneOf (columns : Option ColumnsValue) (image : Option ImageValue) (taken : ℕ) : Type 0 where
+pub record IsOneOf (columns : Option ColumnsValue) (image : Option ImageValue)
+    (taken : ℕ) : Type 0 where
   pub either : IsEither columns image
   pub count : taken ≡ count_by is_some (rows_value columns image).rows

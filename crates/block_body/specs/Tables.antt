@@ -36,7 +36,8 @@ pub record IsTable (places used slots : List ℕ) (held : ℕ) : Type 0 where
   pub few : length places ≤ 2 ^ 32
   pub grouped : length places ≤ 64 * length used
   pub long : held ≡ length slots
-  pub named : (i : ℕ) → i < length slots → slice_index_or places (slice_index_or slots i 0) 0 ≡ i + 1
+  pub named : (i : ℕ) → i < length slots
+      → slice_index_or places (slice_index_or slots i 0) 0 ≡ i + 1
   pub within : (slot i : ℕ) → slice_index_or places slot 0 ≡ i + 1 → i < length slots
   pub placed : (slot i : ℕ) → slice_index_or places slot 0 ≡ i + 1 → slice_index_or slots i 0 ≡ slot
   pub counted : (group : ℕ) → slice_index_or used group 0

@@ -13,7 +13,7 @@ use Rattle.cell_model.specs.declared.column.Column.{Column}
 use Rattle.cell_model.specs.declared.row.RowFault.{RowFault}
 use Rattle.cell_model.specs.declared.row.RowFault.TheVariants.{Arity, NullAt, RangeAt, LongAt}
 use Rattle.cell_model.specs.Rows.{cell_fault, first_fault, Fits}
-use Rattle.cell_model.specs.Values.{is_null, is_value_of, byte_length, most_bytes}
+use Rattle.cell_model.specs.Values.{is_null, is_value_of, byte_length, most_bytes_of}
 use Rattle.block_spec.specs.declared.patch.Assignment.{Assignment}
 use Rattle.block_spec.specs.Fitting.{AssignmentFits, PatchFits}
 use Rattle.block_spec.specs.Slots.{patched, columns_before, standing}
@@ -21,7 +21,7 @@ use Rattle.block_columns.specs.Columns.{CellFits}
 
 -- a cell's fault does not come from its column's number
 pub fault_any : (i j : ℕ) (column : Column) (cell : Cell) → cell_fault i column cell ≡ None → cell_fault j column cell ≡ None
-fault_any i j column cell = go (is_null cell) column.nullable (not (is_value_of column.kind cell)) (nat_lt most_bytes (byte_length cell))
+fault_any i j column cell = go (is_null cell) column.nullable (not (is_value_of column.kind cell)) (nat_lt (most_bytes_of column.kind) (byte_length cell))
   where
     go : (null nullable other long : Bool)
         → cond null (cond nullable None (Some (NullAt i))) (cond other (Some (RangeAt i)) (cond long (Some (LongAt i)) None)) ≡ None

@@ -7,3 +7,4 @@ pub mod Undoing
 pub mod Rowed
 pub mod Lent
 pub mod Whole
+pub mod Striped

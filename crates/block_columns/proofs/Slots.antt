@@ -9,13 +9,13 @@ use Rattle.cell_model.specs.declared.cell.Cell.{Cell}
 use Rattle.cell_model.specs.declared.cell.Cell.TheVariants.{Null}
 use Rattle.cell_model.specs.declared.column.Column.{Column}
 use Rattle.cell_model.specs.declared.row.RowFault.TheVariants.{NullAt, RangeAt, LongAt}
-use Rattle.cell_model.specs.Values.{is_null, is_value_of, byte_length, most_bytes}
+use Rattle.cell_model.specs.Values.{is_null, is_value_of, byte_length, most_bytes_of}
 use Rattle.block_columns.specs.Cells.{ColumnValue, IsSlotOf}
 use Rattle.block_columns.specs.Columns.{CellFits, IsSpare, columns_in, cell_in, with_cell, with_row, with_null, wiped}
 
 -- a cell that keeps its column's rules is a value of its kind, or a null
 pub fits_slot : (column : Column) (cell : Cell) → CellFits column cell → IsSlotOf column.kind cell
-fits_slot column cell fits = go (is_null cell) (is_value_of column.kind cell) (nat_lt most_bytes (byte_length cell)) (nat_le (byte_length cell) most_bytes) (λ h. grind (arith, nat_tests)) fits
+fits_slot column cell fits = go (is_null cell) (is_value_of column.kind cell) (nat_lt (most_bytes_of column.kind) (byte_length cell)) (nat_le (byte_length cell) (most_bytes_of column.kind)) (λ h. grind (arith, nat_tests)) fits
   where
     go : (null value long short : Bool) → (long ≡ false → short ≡ true)
         → cond null (cond column.nullable None (Some (NullAt 0))) (cond (not value) (Some (RangeAt 0)) (cond long (Some (LongAt 0)) None)) ≡ None → (null || (value && short)) ≡ true

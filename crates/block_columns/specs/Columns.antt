@@ -7,11 +7,11 @@ use Rattle.cell_model.specs.declared.cell.Cell.{Cell}
 use Rattle.cell_model.specs.declared.cell.Cell.TheVariants.{Null}
 use Rattle.cell_model.specs.declared.column.Column.{Column}
 use Rattle.cell_model.specs.Rows.{cell_fault}
-use Rattle.arrow_spec.specs.Arrays.{value_of}
+use Rattle.cell_model.specs.Kinds.{values_of}
 use Rattle.block_spec.specs.declared.change.Before.{Before}
 use Rattle.block_spec.specs.declared.change.Before.TheVariants as before
 use Rattle.block_spec.specs.Slots.{Row}
-use Rattle.block_columns.specs.Cells.{ColumnValue}
+use Rattle.block_columns.specs.Cells.{ColumnValue, own_bytes}
 
 -- What the columns take, the row of each slot, if it has one, and how many of the first slots have
 -- memory.
@@ -66,10 +66,11 @@ CellFits column cell = cell_fault 0 column cell ≡ None
 abbrev pub IsLonger : ColumnValue → ColumnValue → Type 0
 IsLonger old new = (n : ℕ) × (new ≡ record old { cells = old.cells ++ replicate n Null })
 
--- a cell that serves where a column's is moved out: the same, or any where the column's has bytes
--- of its own
+-- a cell that serves where a column's is moved out: the same, or any where the column's has more
+-- than 12 bytes of their own
 abbrev pub IsSpare : ℕ → ColumnValue → Cell → Type 0
-IsSpare at c spare = length (value_of (cell_in at c)) ≤ 12 → spare ≡ cell_in at c
+IsSpare at c spare = length (own_bytes (values_of c.column.kind) (cell_in at c)) ≤ 12
+    → spare ≡ cell_in at c
 
 -- a before-image of attributes is laid back on a row
 abbrev pub WantsRow : Before → Option Row → Type 0

@@ -1,15 +1,17 @@
 //! The cells of a column, as Arrow's bytes.
 ghost use Rattle.std.specs.Prelude.{◌≡◌, ◌<◌, ◌≤◌, ◌++◌, [], IfOk, OnOk, OnErr, length, replicate};
-ghost use Rattle.std.specs.Prelude.{slice_set, slice_index_or, map, not, take, IsTrue, ◌↔◌};
+ghost use Rattle.std.specs.Prelude.{slice_set, slice_index_or, map, not, take, IsTrue, ◌↔◌, ℕ};
 ghost use Rattle.cell_model.specs.declared.cell.Cell.TheVariants as cell;
 ghost use Rattle.cell_model.specs.Values.{is_null};
 ghost use Rattle.std.specs.Int.{Width};
 ghost use Rattle.std.specs.List.{flat_map};
 ghost use Rattle.arrow_spec.specs.Arrays.{boolean, fixed, layout_of, null_count, number_of};
-ghost use Rattle.arrow_spec.specs.Arrays.{truth_of, value_of};
+ghost use Rattle.arrow_spec.specs.Arrays.{strip, strip_of, truth_of};
 ghost use Rattle.arrow_spec.specs.Bytes.{bitmap, number_bytes};
+ghost use Rattle.cell_model.specs.Kinds.{values_of};
+ghost use Rattle.cell_model.specs.Values.{most_bytes_of};
 ghost use Rattle.block_spec.specs.Fitting.{unnamed};
-ghost use Rattle.block_columns.specs.Cells.{IsSlotOf};
+ghost use Rattle.block_columns.specs.Cells.{IsSlotOf, own_bytes};
 
 use crate::store::{Store, moved_cell};
 use cell_model::{Cell, Column, Kind};
@@ -129,8 +131,8 @@ impl ColumnCells {
     /// memory.
     pub fn spare(&self, alloc: Global, at: usize) -> Result<Cell, AllocError>
         requires { at < length self.now.cells }
-        ensures { IfOk result (λ spare. length
-            (value_of (slice_index_or self.now.cells at cell.Null)) ≤ 12 →
+        ensures { IfOk result (λ spare. length (own_bytes (values_of self.now.column.kind)
+            (slice_index_or self.now.cells at cell.Null)) ≤ 12 →
             spare ≡ slice_index_or self.now.cells at cell.Null) }
     {
         if self.store.is_long(at) {
@@ -142,7 +144,8 @@ impl ColumnCells {
     /// Moves the cell of a slot out and leaves a null, which takes no memory.
     pub fn take(&mut self, at: usize, spare: Cell) -> Cell
         requires at { at < length self.old.cells }
-        requires spare { length (value_of (slice_index_or self.old.cells at cell.Null)) ≤ 12 →
+        requires spare { length (own_bytes (values_of self.old.column.kind)
+            (slice_index_or self.old.cells at cell.Null)) ≤ 12 →
             spare ≡ slice_index_or self.old.cells at cell.Null }
         ensures taken { result ≡ slice_index_or self.old.cells at cell.Null }
         ensures left { self.new ≡ record self.old
@@ -192,14 +195,17 @@ impl ColumnCells {
         self.valid.copy_to(n, out)
     }
 
-    /// The Arrow bytes of the numbers of the first `n` cells, lent, with zero for a null.
-    pub fn numbers(&self, n: usize) -> &[u8]
+    /// The Arrow bytes of the values of fixed width of the first `n` cells, lent, with zeros for a
+    /// null; none where the values have no fixed width.
+    pub fn fixed_bytes(&self, n: usize) -> &[u8]
         requires { n ≤ length self.now.cells }
-        ensures { (width : Width) → layout_of self.now.column.kind ≡ fixed width →
+        ensures numbers { (width : Width) → layout_of self.now.column.kind ≡ fixed width →
             result.now ≡ flat_map (λ cell. number_bytes width (number_of cell))
             (take n self.now.cells) }
+        ensures strips { (width : ℕ) → layout_of self.now.column.kind ≡ strip width →
+            result.now ≡ flat_map (strip_of width) (take n self.now.cells) }
     {
-        self.store.numbers(n)
+        self.store.fixed_bytes(n)
     }
 
     /// Appends the bitmap of the truth values of the first `n` cells, with a zero bit for a null.
@@ -211,11 +217,12 @@ impl ColumnCells {
         self.store.copy_truths(n, out)
     }
 
-    /// The bytes of a cell, lent; none of a null, a number or a truth value.
+    /// The bytes of a cell of any length, lent; none of a null or of another cell.
     pub fn bytes(&self, at: usize) -> &[u8]
         requires { at < length self.now.cells }
-        ensures value { result.now ≡ value_of (slice_index_or self.now.cells at cell.Null) }
-        ensures short { length result.now ≤ 65535 }
+        ensures value { result.now ≡ own_bytes (values_of self.now.column.kind)
+            (slice_index_or self.now.cells at cell.Null) }
+        ensures short { length result.now ≤ most_bytes_of self.now.column.kind }
     {
         self.store.bytes(at)
     }

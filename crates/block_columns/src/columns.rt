@@ -5,7 +5,8 @@ ghost use Rattle.std.specs.Prelude.{replicate, slice_get, slice_index_or, slice_
 ghost use Rattle.std.specs.Prelude.{if◌then◌else◌, ◌≢◌, IsSomeAnd, unwrap_or, [], map};
 ghost use Rattle.std.specs.Int.{Width};
 ghost use Rattle.std.specs.List.{flat_map};
-ghost use Rattle.arrow_spec.specs.Arrays.{fixed, layout_of, null_count, number_of};
+ghost use Rattle.arrow_spec.specs.Arrays.{fixed, layout_of, null_count, number_of, strip};
+ghost use Rattle.arrow_spec.specs.Arrays.{strip_of};
 ghost use Rattle.arrow_spec.specs.Bytes.{number_bytes};
 ghost use Rattle.cell_model.specs.declared.cell.Cell.TheVariants as cell;
 ghost use Rattle.cell_model.specs.declared.column.Column.{Column as ColumnDecl};
@@ -130,17 +131,21 @@ impl Columns {
         self.column(column).nulls(n)
     }
 
-    /// The Arrow bytes of the numbers of the first `n` slots of a column of fixed width, lent, with
-    /// zero for a null and for a slot without a row. These slots have memory.
+    /// The Arrow bytes of the values of the first `n` slots of a column of fixed width, lent, with
+    /// zeros for a null and for a slot without a row. These slots have memory.
     pub fn fixed_bytes(&self, column: usize, n: usize) -> &[u8]
         requires column { column < length self.now.columns }
         requires room { n ≤ self.now.room }
-        ensures { (width : Width) (c : ColumnDecl) → slice_get self.now.columns column ≡ Some c →
-            layout_of c.kind ≡ fixed width → result.now ≡
-            flat_map (λ row. number_bytes width (number_of (cell_of column row)))
+        ensures numbers { (width : Width) (c : ColumnDecl)
+            → slice_get self.now.columns column ≡ Some c → layout_of c.kind ≡ fixed width →
+            result.now ≡ flat_map (λ row. number_bytes width (number_of (cell_of column row)))
+            (take n self.now.rows) }
+        ensures strips { (width : ℕ) (c : ColumnDecl)
+            → slice_get self.now.columns column ≡ Some c → layout_of c.kind ≡ strip width →
+            result.now ≡ flat_map (λ row. strip_of width (cell_of column row))
             (take n self.now.rows) }
     {
-        self.columns[column].numbers(n)
+        self.columns[column].fixed_bytes(n)
     }
 
     /// Whether a slot has a row.

@@ -4,6 +4,7 @@
 
 mod cells;
 mod columns;
+pub mod examples;
 mod form;
 mod image;
 mod patches;

@@ -1,31 +1,36 @@
 //! What a column stores for each cell.
 ghost use Rattle.std.specs.Prelude.{◌≡◌, ◌<◌, ◌≤◌, ◌++◌, [], IfOk, OnOk, OnErr, IfNone, IfSome};
 ghost use Rattle.std.specs.Prelude.{List, length, map, take, replicate, slice_set, slice_index_or};
-ghost use Rattle.std.specs.Prelude.{IsTrue, ◌↔◌, ◌^◌, true, false, Bool};
+ghost use Rattle.std.specs.Prelude.{IsTrue, ◌↔◌, ◌^◌, ◌*◌, ℕ, true, false, Bool};
 ghost use Rattle.cell_model.specs.declared.cell.Cell.TheVariants as cell;
 ghost use Rattle.cell_model.specs.declared.cell.Cell.{Cell as CellValue};
 ghost use Rattle.cell_model.specs.declared.kind.Kind.{Kind as KindValue};
-ghost use Rattle.flat_column.specs.Numbers.{IsWidth};
-ghost use Rattle.std.specs.Int.{Width};
+ghost use Rattle.std.specs.Int.{Width, byte_len};
 ghost use Rattle.std.specs.List.{flat_map};
-ghost use Rattle.arrow_spec.specs.Arrays.{boolean, fixed, layout_of, number_of, truth_of, value_of};
+ghost use Rattle.arrow_spec.specs.Arrays.{boolean, fixed, layout_of, number_of, strip, strip_of};
+ghost use Rattle.arrow_spec.specs.Arrays.{truth_of, value_of};
 ghost use Rattle.arrow_spec.specs.Bytes.{bitmap, number_bytes};
 ghost use Rattle.block_columns.specs.Cells.{IsSlotOf, IsStoreOf, Stores, StoresNone, bytes_at};
 ghost use Rattle.block_columns.specs.Cells.{bytes_in, full_cells, stored_length};
 ghost use Rattle.cell_model.specs.Kinds.{values_of};
+ghost use Rattle.cell_model.specs.Widths.{number_width};
 
 use crate::value::Value;
-use cell_model::{Bytes, Cell, Kind};
-use flat_column::{Bits, Fixed};
+use cell_model::{Bytes, Cell, Kind, NumberWidth, Values};
+use flat_column::{Bits, Fixed, Strips};
 use std::alloc::{AllocError, Global};
 use std::mem;
 
-/// A value for each cell; that of a null is zero, false or no bytes.
+/// A value for each cell; that of a null is zero, false, no bytes, or zeros where all values have
+/// equally many.
 #[derive(Drop)]
 pub enum Store {
     Numbers(Fixed),
     Truths(Bits),
+    /// Values of any length.
     Values(Vec<Value>),
+    /// Values of which each has so many bytes.
+    Strips(Strips),
 }
 
 impl Store {
@@ -34,17 +39,14 @@ impl Store {
         ensures known { IfOk result (λ store. IsStoreOf kind store) }
         ensures empty { IfOk result (λ store. Stores store []) }
     {
-        match kind {
-            Kind::I8 => numbers(alloc, 8, true),
-            Kind::I16 => numbers(alloc, 16, true),
-            Kind::I32 => numbers(alloc, 32, true),
-            Kind::I64 => numbers(alloc, 64, true),
-            Kind::U8 => numbers(alloc, 8, false),
-            Kind::U16 => numbers(alloc, 16, false),
-            Kind::U32 => numbers(alloc, 32, false),
-            Kind::U64 => numbers(alloc, 64, false),
-            Kind::Bool => Ok(Store::Truths(Bits::new(alloc, 0)?)),
-            Kind::Utf8 | Kind::Binary => Ok(Store::Values(Vec::new(alloc))),
+        match kind.values() {
+            Values::Signed(width) => numbers(alloc, width, true),
+            Values::Unsigned(width) => numbers(alloc, width, false),
+            Values::Truths => Ok(Store::Truths(Bits::new(alloc, 0)?)),
+            Values::Texts(_) | Values::Blobs(_) => Ok(Store::Values(Vec::new(alloc))),
+            Values::Strips(width) => {
+                Ok(Store::Strips(Strips::new(alloc, width.bytes() as usize, 0)?))
+            }
         }
     }
 
@@ -60,6 +62,7 @@ impl Store {
             Store::Numbers(numbers) => numbers.extend(n),
             Store::Truths(truths) => truths.extend(n),
             Store::Values(values) => add_empty(values, n),
+            Store::Strips(strips) => strips.extend(n),
         }
     }
 
@@ -76,6 +79,7 @@ impl Store {
             Store::Numbers(numbers) => numbers.set(at, number_of(&value)),
             Store::Truths(truths) => truths.set(at, truth_of(&value)),
             Store::Values(values) => values[at] = owned_value(value),
+            Store::Strips(strips) => lay_strip(strips, at, &value),
         }
     }
 
@@ -99,6 +103,10 @@ impl Store {
                 None
             }
             Store::Values(values) => mem::replace(&mut values[at], Value::empty()).into_owned(),
+            Store::Strips(strips) => {
+                strips.clear(at);
+                None
+            }
         }
     }
 
@@ -115,6 +123,10 @@ impl Store {
                 let bytes = Bytes::from_slice(alloc, values[at].as_slice())?;
                 Ok(cell_of_bytes(kind, bytes))
             }
+            Store::Strips(strips) => {
+                let bytes = Bytes::from_slice(alloc, strips.get(at))?;
+                Ok(cell_of_bytes(kind, bytes))
+            }
         }
     }
 
@@ -127,7 +139,7 @@ impl Store {
     {
         match self {
             Store::Numbers(numbers) => numbers.get(at),
-            Store::Truths(_) | Store::Values(_) => 0,
+            Store::Truths(_) | Store::Values(_) | Store::Strips(_) => 0,
         }
     }
 
@@ -141,6 +153,7 @@ impl Store {
             Store::Numbers(numbers) => is_number(numbers.get(at), value),
             Store::Truths(truths) => is_truth(truths.get(at), value),
             Store::Values(values) => is_bytes(kind, values[at].as_slice(), value),
+            Store::Strips(strips) => is_bytes(kind, strips.get(at), value),
         }
     }
 
@@ -155,19 +168,26 @@ impl Store {
             Store::Numbers(numbers) => Ok(Store::Numbers(numbers.clone()?)),
             Store::Truths(truths) => Ok(Store::Truths(truths.clone()?)),
             Store::Values(values) => Ok(Store::Values(copied_values(alloc, values.as_slice())?)),
+            Store::Strips(strips) => Ok(Store::Strips(strips.clone()?)),
         }
     }
 
-    /// The Arrow bytes of the first `n` numbers, lent; none where other values are stored.
-    pub fn numbers(&self, n: usize) -> &[u8]
+    /// The Arrow bytes of the first `n` values of fixed width, lent; none where other values are
+    /// stored.
+    pub fn fixed_bytes(&self, n: usize) -> &[u8]
         requires { n ≤ stored_length self.now }
-        ensures { (kind : KindValue) (width : Width) (cells : List CellValue)
+        ensures numbers { (kind : KindValue) (width : Width) (cells : List CellValue)
             → IsStoreOf kind self.now →
             Stores self.now cells → layout_of kind ≡ fixed width →
             result.now ≡ flat_map (λ cell. number_bytes width (number_of cell)) (take n cells) }
+        ensures strips { (kind : KindValue) (width : ℕ) (cells : List CellValue)
+            → IsStoreOf kind self.now →
+            Stores self.now cells → layout_of kind ≡ strip width →
+            result.now ≡ flat_map (strip_of width) (take n cells) }
     {
         match self {
             Store::Numbers(numbers) => numbers.bytes(n),
+            Store::Strips(strips) => strips.bytes(n),
             Store::Truths(_) | Store::Values(_) => &[],
         }
     }
@@ -182,28 +202,28 @@ impl Store {
     {
         match self {
             Store::Truths(truths) => truths.copy_to(n, out),
-            Store::Numbers(_) | Store::Values(_) => Ok(()),
+            Store::Numbers(_) | Store::Values(_) | Store::Strips(_) => Ok(()),
         }
     }
 
-    /// The bytes of a value, lent; none where numbers or truth values are stored.
+    /// The bytes of a value of any length, lent; none where other values are stored.
     pub fn bytes(&self, at: usize) -> &[u8]
         requires { at < stored_length self.now }
         ensures { result.now ≡ bytes_at self.now at }
     {
         match self {
             Store::Values(values) => values[at].as_slice(),
-            Store::Numbers(_) | Store::Truths(_) => &[],
+            Store::Numbers(_) | Store::Truths(_) | Store::Strips(_) => &[],
         }
     }
 
-    /// Whether the value is one of more than 12 bytes.
+    /// Whether the value has more than 12 bytes of its own.
     pub fn is_long(&self, at: usize) -> bool
         requires { at < stored_length self.now }
         ensures { IsTrue result ↔ (12 < length (bytes_at self.now at)) }
     {
         match self {
-            Store::Numbers(_) | Store::Truths(_) => false,
+            Store::Numbers(_) | Store::Truths(_) | Store::Strips(_) => false,
             Store::Values(values) => !values[at].is_inline(),
         }
     }
@@ -213,9 +233,10 @@ impl Store {
 fn cell_of_bytes(kind: Kind, bytes: Bytes) -> Cell
     ensures { result ≡ bytes_in (values_of kind) bytes }
 {
-    match kind {
-        Kind::Utf8 => Cell::Text(bytes),
-        _ => Cell::Blob(bytes),
+    if kind.values().are_texts() {
+        Cell::Text(bytes)
+    } else {
+        Cell::Blob(bytes)
     }
 }
 
@@ -244,8 +265,8 @@ fn is_bytes(kind: Kind, bytes: &[u8], value: &Cell) -> bool
     ensures { IsTrue result ↔ (bytes_in (values_of kind) bytes.now ≡ value.now) }
 {
     match value {
-        Cell::Text(text) => matches!(kind, Kind::Utf8) && bytes == text.as_slice(),
-        Cell::Blob(blob) => !matches!(kind, Kind::Utf8) && bytes == blob.as_slice(),
+        Cell::Text(text) => kind.values().are_texts() && bytes == text.as_slice(),
+        Cell::Blob(blob) => !kind.values().are_texts() && bytes == blob.as_slice(),
         Cell::Null | Cell::Num(_) | Cell::Truth(_) => false,
     }
 }
@@ -262,11 +283,11 @@ pub fn moved_cell(kind: Kind, moved: Option<Bytes>, spare: Cell) -> Cell
 }
 
 /// The cells of a column of numbers that has no slot yet.
-fn numbers(alloc: Global, width: u32, signed: bool) -> Result<Store, AllocError>
-    requires { IsWidth width }
-    ensures { IfOk result (λ store. StoresNone width signed store) }
+fn numbers(alloc: Global, width: NumberWidth, signed: bool) -> Result<Store, AllocError>
+    ensures { IfOk result
+        (λ store. StoresNone (8 * byte_len (number_width width)) signed store) }
 {
-    Ok(Store::Numbers(Fixed::new(alloc, width, signed, 0)?))
+    Ok(Store::Numbers(Fixed::new(alloc, 8 * width.bytes(), signed, 0)?))
 }
 
 /// Copies of values of any length.
@@ -290,6 +311,23 @@ fn add_empty(values: &mut Vec<Value>, n: usize) -> Result<(), AllocError>
         values.push_reserved(Value::empty());
     }
     Ok(())
+}
+
+/// Puts the bytes of a cell, zeros of a null.
+fn lay_strip(strips: &mut Strips, at: usize, value: &Cell)
+    requires at { at < length strips.old.values }
+    requires width { 0 < length (value_of value.now)
+        → length (value_of value.now) ≡ strips.old.width }
+    ensures { strips.new ≡ record strips.old {
+      values = slice_set strips.old.values at (strip_of strips.old.width value.now);
+    } }
+{
+    let bytes = value_of(value);
+    if bytes.is_empty() {
+        strips.clear(at);
+    } else {
+        strips.set(at, bytes);
+    }
 }
 
 /// The number of a cell, 0 of a null.

@@ -1,3 +1,4 @@
+pub mod Widths
 pub mod Kinds
 pub mod Values
 pub mod Rows

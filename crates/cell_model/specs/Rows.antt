@@ -1,7 +1,7 @@
 -- Which rows fit which columns.
 use Rattle.std.specs.Prelude.{◌≡◌, ℕ, ◌+◌, Bool, ◌==◌, List, [], ◌∷◌, length, nat_lt, not}
 use Rattle.std.specs.Prelude.{if◌then◌else◌, Option, None, Some, is_none, Result, MatchResult}
-use Rattle.cell_model.specs.Values.{is_value_of, is_null, byte_length, most_bytes}
+use Rattle.cell_model.specs.Values.{is_value_of, is_null, byte_length, most_bytes_of}
 use Rattle.cell_model.specs.declared.cell.Cell.{Cell}
 use Rattle.cell_model.specs.declared.column.Column.{Column}
 use Rattle.cell_model.specs.declared.row.RowFault.{RowFault}
@@ -13,7 +13,7 @@ abbrev pub cell_fault : ℕ → Column → Cell → Option RowFault
 cell_fault at column cell =
     if is_null cell then (if column.nullable then None else Some (NullAt at))
     else if not (is_value_of column.kind cell) then Some (RangeAt at)
-    else if nat_lt most_bytes (byte_length cell) then Some (LongAt at)
+    else if nat_lt (most_bytes_of column.kind) (byte_length cell) then Some (LongAt at)
     else None
 
 -- the fault of the first column, from number `at` on, whose cell has one

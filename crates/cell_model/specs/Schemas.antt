@@ -4,8 +4,8 @@ use Rattle.std.specs.Prelude.{List, [], ◌∷◌, length, nat_lt, if◌then◌e
 use Rattle.std.specs.Prelude.{position, option_map, is_some, bytes_eq, codes, sum_by, All, Result}
 use Rattle.std.specs.Prelude.{Ok, Err}
 use Rattle.std.specs.Str.{IsUtf8}
-use Rattle.cell_model.specs.Kinds.{bits_in, values_of}
-use Rattle.cell_model.specs.Values.{most_bytes}
+use Rattle.cell_model.specs.Kinds.{bits_in, has_width, values_of}
+use Rattle.cell_model.specs.Widths.{most_bytes}
 use Rattle.cell_model.specs.declared.kind.Kind.{Kind}
 use Rattle.cell_model.specs.declared.kind.Kind.TheVariants as kind
 use Rattle.cell_model.specs.declared.column.Column.{Column}
@@ -42,9 +42,11 @@ first_twins at (column ∷ columns) =
 abbrev pub most_columns : ℕ
 most_columns = 32
 
--- the column's name is UTF-8 of at most 65,535 bytes
+-- The column's name is UTF-8 of at most 65,535 bytes, and its kind is one that there is: where its
+-- values all have equally many bytes, these are 1 to 1,024.
 abbrev pub IsName : Column → Type 0
 IsName column = IsUtf8 column.name × (length column.name ≤ most_bytes)
+    × (has_width (values_of column.kind) ≡ true)
 
 -- Each column's name is a text.
 pub record AreNamed (columns : List Column) : Type 0 where

@@ -8,7 +8,7 @@ use crate::cell::Cell;
 use crate::kind::Kind;
 use crate::row::RowFault;
 
-/// The most bytes of a value.
+/// The most bytes of a name.
 pub const MOST_BYTES: usize = 65_535;
 
 /// A column: its name, the kind of its values, and whether a value may be missing.
@@ -21,11 +21,14 @@ pub struct Column {
 }
 
 impl Column {
-    /// Whether the name is UTF-8 of at most 65,535 bytes, as a schema's names are.
+    /// Whether the name is UTF-8 of at most 65,535 bytes, as a schema's names are, and the kind one
+    /// that there is, as it always is.
     pub fn is_named(&self) -> bool
         ensures { IsTrue result ↔ IsName self.now }
     {
-        str::from_utf8(self.name.as_slice()).is_ok() && self.name.len() <= MOST_BYTES
+        str::from_utf8(self.name.as_slice()).is_ok()
+            && self.name.len() <= MOST_BYTES
+            && self.kind.values().has_width()
     }
 
     /// Whether this is the key: `key`, `I64` and not nullable.
@@ -50,7 +53,7 @@ impl Column {
             }
         } else if !self.kind.holds(cell) {
             Err(RowFault::RangeAt(at))
-        } else if cell.byte_length() > MOST_BYTES {
+        } else if cell.byte_length() > self.kind.most_bytes() {
             Err(RowFault::LongAt(at))
         } else {
             Ok(())

@@ -11,6 +11,8 @@ pub mod row;
 pub mod rows;
 pub mod schema;
 pub mod table;
+pub mod values;
+pub mod width;
 
 pub use buffers::Buffers;
 pub use bytes::Bytes;
@@ -21,3 +23,5 @@ pub use row::{Row, RowFault};
 pub use rows::Rows;
 pub use schema::{MOST_COLUMNS, MOST_SLOTS, Schema, SchemaFault, most_slots};
 pub use table::TableDecl;
+pub use values::Values;
+pub use width::{ByteWidth, NumberWidth, OffsetWidth};

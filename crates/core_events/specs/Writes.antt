@@ -21,7 +21,8 @@ pub record TakesChange (body : Body) (at session : ℕ) (change : Change) : Type
   pub fits : ChangeFits body.columns change
 
 -- The body of a place is in the hand, and takes the change.
-pub record TakesAt (shape : Shape) (hand : Held) (table place session : ℕ) (change : Change) : Type 0 where
+pub record TakesAt (shape : Shape) (hand : Held) (table place session : ℕ)
+    (change : Change) : Type 0 where
   pub body : Has shape hand (BodyOf table (block_of place))
   pub takes : TakesChange (body_from (in_hand shape hand (BodyOf table (block_of place))))
       (slot_of place) session change

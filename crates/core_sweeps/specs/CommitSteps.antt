@@ -22,7 +22,8 @@ stamped_so_far shape parts session writes = record nothing {
 }
 
 -- The hand after some of a transaction's writes were stamped.
-pub record IsStamped (shape : Shape) (own : OwnTransaction) (stamp number : ℕ) (old new : Held) (writes : PlaceMap ℕ) : Type 0 where
+pub record IsStamped (shape : Shape) (own : OwnTransaction) (stamp number : ℕ) (old new : Held)
+    (writes : PlaceMap ℕ) : Type 0 where
   pub may : MayRun shape (event.Commit own) old
   pub taken : stamp ≡ (desk_at shape may.parts).newest + 1
   pub counted : number ≡ (desk_at shape may.parts).commits + 1

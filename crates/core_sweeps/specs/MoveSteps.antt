@@ -133,13 +133,15 @@ back_to shape parts table pairs again = record (moved_to shape parts table pairs
 }
 
 -- The hand after so many of the pairs that hold moved.
-pub record AreMoved (shape : Shape) (table : ℕ) (moves : List MovePair) (old now : Held) (pairs : List MovePair) (done : ℕ) : Type 0 where
+pub record AreMoved (shape : Shape) (table : ℕ) (moves : List MovePair) (old now : Held)
+    (pairs : List MovePair) (done : ℕ) : Type 0 where
   pub may : MayRun shape (event.Move table moves) old
   pub hold : pairs ≡ held_pairs shape may.parts table moves
   pub made : now ≡ after shape (moved_to shape may.parts table (take done pairs)) old
 
 -- The hand after all but so many of the pairs that moved were taken back.
-pub record AreBack (shape : Shape) (table : ℕ) (moves : List MovePair) (old now : Held) (pairs : List MovePair) (done : ℕ) : Type 0 where
+pub record AreBack (shape : Shape) (table : ℕ) (moves : List MovePair) (old now : Held)
+    (pairs : List MovePair) (done : ℕ) : Type 0 where
   pub may : MayRun shape (event.Move table moves) old
   pub hold : pairs ≡ held_pairs shape may.parts table moves
   pub again : ℕ → Bool

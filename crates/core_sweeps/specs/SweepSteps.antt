@@ -86,7 +86,8 @@ undone_so_far shape parts session writes = record nothing {
 }
 
 -- The hand after some of a transaction's writes were undone.
-pub record IsUndone (shape : Shape) (own : OwnTransaction) (old new : Held) (writes : PlaceMap ℕ) : Type 0 where
+pub record IsUndone (shape : Shape) (own : OwnTransaction) (old new : Held)
+    (writes : PlaceMap ℕ) : Type 0 where
   pub may : MayRun shape (event.Abort own) old
   pub made : new ≡ after shape (undone_so_far shape may.parts own.session writes) old
 

@@ -1,3 +1,4 @@
 pub mod BitmapLemmas
 pub mod NumberLemmas
 pub mod ArrowLemmas
+pub mod StripLemmas

@@ -7,15 +7,15 @@ ghost use Rattle.ipc_message.specs.Sizes.{IsSmallBatch};
 
 use crate::column::gather_column;
 use block_columns::{ArrowForm, Columns, Image};
-use cell_model::Buffers;
+use cell_model::{Buffers, Values};
 use ipc_message::small_message;
 use std::alloc::{AllocError, Global};
 use std::thread;
 use std::thread::Threads;
 
-/// How many bytes of a column make a thread of its own pay: numbers are copied sooner than a thread
-/// starts, the values of a text of a whole block are not.
-const LARGE: usize = 400_000;
+/// How many values of any length make a thread of its own pay: values of fixed width are copied
+/// sooner than a thread starts, the texts of a whole block are not.
+const LARGE: usize = 25_000;
 
 /// An image of a copy of the columns with the Arrow form of the first `rows` slots, each of which
 /// has a row. Only want of memory is refused.
@@ -115,11 +115,15 @@ fn gather_columns<R: Threads + Sync>(
 }
 
 /// Whether the values of so many slots are large in a column.
-fn has_large(columns: &Columns, n: usize) -> bool
-    requires { n ≤ 2 ^ 15 }
-{
+fn has_large(columns: &Columns, n: usize) -> bool {
+    n > LARGE && has_variable(columns)
+}
+
+/// Whether a column has values of any length.
+fn has_variable(columns: &Columns) -> bool {
     for at in 0..columns.width() {
-        if n * columns.column(at).kind().bits() as usize / 8 > LARGE {
+        let values = columns.column(at).kind().values();
+        if matches!(values, Values::Texts(_) | Values::Blobs(_)) {
             return true;
         }
     }

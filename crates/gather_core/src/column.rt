@@ -2,9 +2,9 @@
 ghost use Rattle.std.specs.Prelude.{◌≡◌, ◌≤◌, ◌^◌, ◌++◌, IfOk, OnOk, length, take};
 ghost use Rattle.arrow_spec.specs.Arrays.{column_buffers, data_buffers, layout_of, validity};
 
-use crate::values::values;
+use crate::values::gather_values;
 use block_columns::ColumnCells;
-use cell_model::{Buffers, Bytes, Kind};
+use cell_model::{Buffers, Bytes, Values};
 use std::alloc::{AllocError, Global};
 
 /// The Arrow buffers of the first cells of a column.
@@ -45,26 +45,19 @@ fn add_data(
         buffers.old.items ++ data_buffers (layout_of column.now.column.kind)
         (take n column.now.cells)) }
 {
-    match column.kind() {
-        Kind::Bool => {
+    match column.kind().values() {
+        Values::Truths => {
             let mut bytes = Vec::new(alloc);
             column.copy_truths(n, &mut bytes)?;
             buffers.push(Bytes::from(bytes))?;
         }
-        Kind::Utf8 | Kind::Binary => {
-            let values = values(alloc, column, n)?;
+        Values::Texts(width) | Values::Blobs(width) => {
+            let values = gather_values(alloc, column, width, n)?;
             buffers.push(Bytes::from(values.offsets))?;
             buffers.push(Bytes::from(values.bytes))?;
         }
-        Kind::I8
-        | Kind::I16
-        | Kind::I32
-        | Kind::I64
-        | Kind::U8
-        | Kind::U16
-        | Kind::U32
-        | Kind::U64 => {
-            buffers.push(Bytes::from_slice(alloc, column.numbers(n))?)?;
+        Values::Signed(_) | Values::Unsigned(_) | Values::Strips(_) => {
+            buffers.push(Bytes::from_slice(alloc, column.fixed_bytes(n))?)?;
         }
     }
     Ok(())

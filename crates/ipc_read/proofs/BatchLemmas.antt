@@ -20,6 +20,7 @@ use Rattle.stream_spec.specs.declared.fault.Cause.TheVariants as cause
 use Rattle.stream_spec.specs.declared.message.BufferPlace.{BufferPlace}
 use Rattle.stream_spec.specs.declared.message.FieldNode.{FieldNode}
 use Rattle.ipc_read.specs.declared.views.View.{View}
+use Rattle.ipc_read.specs.Layouts.{values_in}
 use Rattle.ipc_read.specs.Views.{cell_in, cells_in, has_room}
 use Rattle.ipc_read.specs.Batches.{has_slot, have_room, have_slot, row_in, rows_in}
 use Rattle.ipc_read.proofs.ViewLemmas.{room_at}
@@ -45,7 +46,7 @@ pub slot_in_room : (rows i : ℕ) → i < rows → (views : List View) → have_
 slot_in_room rows i lt [] all = refl
 slot_in_room rows i lt (view ∷ views) all =
     let both = and_parts (has_room rows view) (have_room rows views) all in
-    and_from (has_slot i view) (have_slot i views) (le-leb _ _ (room_at view.kind i rows (length view.data.now) lt both.0)) (slot_in_room rows i lt views both.1)
+    and_from (has_slot i view) (have_slot i views) (le-leb _ _ (room_at (values_in view.layout) i rows (length view.data.now) lt both.0)) (slot_in_room rows i lt views both.1)
 
 -- ---- columns one after another
 

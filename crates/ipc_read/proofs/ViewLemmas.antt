@@ -1,34 +1,32 @@
--- What a column's buffers are, kind by kind.
+-- What a column's buffers are, by the sort of its values.
 use Rattle.std.proofs.Common.{◌≡◌, ℕ, ◌+◌, ◌<◌, ◌≤◌, ◌&&◌, ◌||◌, ◌==◌, ◌⊎◌, inl, inr, Bool, true, false, List, [], ◌∷◌, length, map, take, get_or, refl, sym, ap, ◌∙◌, arith}
 use Rattle.std.specs.Prelude.{nat_le, slice_index, unsigned_abs, ℤ, pos, Result, Ok, Err}
+use Rattle.std.proofs.Math.Nat.{mul-le-mul_right}
 use Rattle.std.proofs.lemmas.Bool.{leb-true, le-leb, eqb-true, and_from}
+use Rattle.std.specs.Int.{byte_len}
 use Rattle.std.specs.List.{list_all}
 use Rattle.std.specs.Ordering.{int_eq}
 use Rattle.cell_model.specs.declared.cell.Cell.{Cell}
-use Rattle.cell_model.specs.declared.kind.Kind.{Kind}
-use Rattle.cell_model.specs.declared.kind.Kind.TheVariants as kind
+use Rattle.cell_model.specs.declared.values.Values.{Values}
+use Rattle.cell_model.specs.declared.values.Values.TheVariants.{Signed, Unsigned, Truths, Texts, Blobs, Strips}
+use Rattle.cell_model.specs.Widths.{number_width, offset_width}
 use Rattle.stream_spec.specs.Columns.{are_buffers, bytes_of, data_count, cells_of, column_of, data_needs, has_offsets, is_buffer, is_text, lies_in, null_count_of}
 use Rattle.stream_spec.specs.declared.message.BufferPlace.{BufferPlace}
 use Rattle.stream_spec.specs.Checks.{◌>>=◌, rule}
 use Rattle.stream_spec.specs.declared.fault.Cause.{Cause}
 use Rattle.stream_spec.specs.declared.fault.Cause.TheVariants as cause
 use Rattle.ipc_read.specs.declared.views.View.{View}
+use Rattle.ipc_read.specs.Layouts.{values_in}
 use Rattle.ipc_read.specs.Views.{IsView, cells_in, data_of, need_of}
-use Rattle.cell_model.specs.Kinds.{Values, signed, unsigned, truths, texts, blobs, values_of}
 
 -- needs grow with the rows
-grows : (k : Kind) (i rows : ℕ) → i < rows → need_of k (i + 1) ≤ need_of k rows
-grows kind.I8 i rows lt = omega arith
-grows kind.I16 i rows lt = omega arith
-grows kind.I32 i rows lt = omega arith
-grows kind.I64 i rows lt = omega arith
-grows kind.U8 i rows lt = omega arith
-grows kind.U16 i rows lt = omega arith
-grows kind.U32 i rows lt = omega arith
-grows kind.U64 i rows lt = omega arith
-grows kind.Bool i rows lt = omega arith
-grows kind.Utf8 i rows lt = omega arith
-grows kind.Binary i rows lt = omega arith
+grows : (sort : Values) (i rows : ℕ) → i < rows → need_of sort (i + 1) ≤ need_of sort rows
+grows (Signed width) i rows lt = mul-le-mul_right (byte_len (number_width width)) (omega arith)
+grows (Unsigned width) i rows lt = mul-le-mul_right (byte_len (number_width width)) (omega arith)
+grows Truths i rows lt = omega arith
+grows (Texts width) i rows lt = mul-le-mul_right (byte_len (offset_width width)) (omega arith)
+grows (Blobs width) i rows lt = mul-le-mul_right (byte_len (offset_width width)) (omega arith)
+grows (Strips bytes) i rows lt = mul-le-mul_right bytes (omega arith)
 
 -- Data that have room for some rows are as long as these need.
 room_by : (none : Bool) (rows need length : ℕ) → (rows == 0) ≡ none → 0 < rows → (none || nat_le need length) ≡ true → need ≤ length
@@ -36,7 +34,7 @@ room_by true rows need length none some room = let zero : rows ≡ 0 = eqb-true 
 room_by false rows need length none some room = leb-true need length room
 
 -- data that are long enough for all rows are so for each
-pub room_at : (k : Kind) (i rows length : ℕ) → i < rows → (rows == 0 || nat_le (need_of k rows) length) ≡ true → need_of k (i + 1) ≤ length
+pub room_at : (k : Values) (i rows length : ℕ) → i < rows → (rows == 0 || nat_le (need_of k rows) length) ≡ true → need_of k (i + 1) ≤ length
 room_at k i rows length lt room =
     let all : need_of k rows ≤ length = room_by (rows == 0) rows (need_of k rows) length refl (omega arith) room in
     let more : need_of k (i + 1) ≤ need_of k rows = grows k i rows lt in
@@ -60,18 +58,19 @@ two_items (x ∷ []) d e is = absurd (omega (arith, is))
 two_items (x ∷ y ∷ []) d e is = refl
 two_items (x ∷ y ∷ z ∷ items) d e is = absurd (omega (arith, is))
 
--- A kind's buffers: one or two, and how long they have to be.
+-- A column's buffers: one or two, and how long they have to be.
 pub record Shape (values : Values) (rows count : ℕ) (needs : List ℕ) : Type 0 where
   pub count_is : data_count values ≡ count
   pub needs_are : data_needs values rows ≡ needs
 
--- A kind has one buffer of data, or two, the second of any length.
+-- A column has one buffer of data, or two, the second of any length.
 shape_of : (values : Values) (rows : ℕ) → Shape values rows 1 (slice_index (data_needs values rows) 0 ∷ []) ⊎ Shape values rows 2 (slice_index (data_needs values rows) 0 ∷ 0 ∷ [])
-shape_of (signed width) rows = inl (record { count_is = refl; needs_are = refl })
-shape_of (unsigned width) rows = inl (record { count_is = refl; needs_are = refl })
-shape_of truths rows = inl (record { count_is = refl; needs_are = refl })
-shape_of texts rows = inr (record { count_is = refl; needs_are = refl })
-shape_of blobs rows = inr (record { count_is = refl; needs_are = refl })
+shape_of (Signed width) rows = inl (record { count_is = refl; needs_are = refl })
+shape_of (Unsigned width) rows = inl (record { count_is = refl; needs_are = refl })
+shape_of Truths rows = inl (record { count_is = refl; needs_are = refl })
+shape_of (Texts width) rows = inr (record { count_is = refl; needs_are = refl })
+shape_of (Blobs width) rows = inr (record { count_is = refl; needs_are = refl })
+shape_of (Strips bytes) rows = inl (record { count_is = refl; needs_are = refl })
 
 -- How long a buffer is by its place, without a sign.
 abbrev count_in : BufferPlace → ℕ
@@ -156,14 +155,14 @@ pub all_hold : (counted rising encoded : Bool) (cells : List Cell) → counted �
 all_hold counted rising encoded cells a b is = ap (λ (x : Bool). checked x rising encoded cells) a ∙ (ap (λ (x : Bool). checked true x encoded cells) b ∙ ap (λ (x : Bool). checked true true x cells) is)
 
 -- the checks of a column whose buffers are lent
-pub as_checked : (body : List ℕ) (rows : ℕ) (k : Kind) (nulls : ℤ) (validity : BufferPlace) (buffers : List BufferPlace) (view : View)
-    → IsView body rows k validity buffers view
-    → column_of body rows (values_of k) nulls validity buffers
-    ≡ checked (int_eq nulls (pos (null_count_of view.validity.now rows))) (has_offsets (values_of view.kind) (data_of view) rows) (list_all is_text (cells_in rows view)) (cells_in rows view)
-as_checked body rows k nulls validity buffers view is =
-    let by : Kind → List ℕ → List (List ℕ) → Result (List Cell) Cause =
-    λ (j : Kind) (bits : List ℕ) (all : List (List ℕ)). checked (int_eq nulls (pos (null_count_of bits rows))) (has_offsets (values_of j) all rows) (list_all is_text (cells_of (values_of j) bits all rows)) (cells_of (values_of j) bits all rows) in
-    ap (λ (b : Bool). rule cause.Buffer b >>= λ _. by k (bytes_of body validity) (map (bytes_of body) buffers)) is.inside
-    ∙ (ap (λ (j : Kind). by j (bytes_of body validity) (map (bytes_of body) buffers)) (sym is.of_kind)
-    ∙ (ap (λ (bits : List ℕ). by view.kind bits (map (bytes_of body) buffers)) (sym is.of_validity)
-    ∙ ap (by view.kind view.validity.now) (sym is.of_data)))
+pub as_checked : (body : List ℕ) (rows : ℕ) (sort : Values) (nulls : ℤ) (validity : BufferPlace) (buffers : List BufferPlace) (view : View)
+    → IsView body rows sort validity buffers view
+    → column_of body rows sort nulls validity buffers
+    ≡ checked (int_eq nulls (pos (null_count_of view.validity.now rows))) (has_offsets (values_in view.layout) (data_of view) rows) (list_all is_text (cells_in rows view)) (cells_in rows view)
+as_checked body rows sort nulls validity buffers view is =
+    let by : Values → List ℕ → List (List ℕ) → Result (List Cell) Cause =
+    λ (j : Values) (bits : List ℕ) (all : List (List ℕ)). checked (int_eq nulls (pos (null_count_of bits rows))) (has_offsets j all rows) (list_all is_text (cells_of j bits all rows)) (cells_of j bits all rows) in
+    ap (λ (b : Bool). rule cause.Buffer b >>= λ _. by sort (bytes_of body validity) (map (bytes_of body) buffers)) is.inside
+    ∙ (ap (λ (j : Values). by j (bytes_of body validity) (map (bytes_of body) buffers)) (sym is.of_sort)
+    ∙ (ap (λ (bits : List ℕ). by (values_in view.layout) bits (map (bytes_of body) buffers)) (sym is.of_validity)
+    ∙ ap (by (values_in view.layout) view.validity.now) (sym is.of_data)))

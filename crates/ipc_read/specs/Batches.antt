@@ -3,6 +3,7 @@ use Rattle.std.specs.Prelude.{ℕ, ◌+◌, Bool, nat_le, List, length, map}
 use Rattle.std.specs.List.{list_all, range_with_len}
 use Rattle.cell_model.specs.declared.cell.Cell.{Cell}
 use Rattle.ipc_read.specs.declared.views.View.{View}
+use Rattle.ipc_read.specs.Layouts.{values_in}
 use Rattle.ipc_read.specs.Views.{cell_in, has_room, need_of}
 
 -- the row in a slot
@@ -19,7 +20,7 @@ have_room rows views = list_all (has_room rows) views
 
 -- the data of a column reach as far as a slot
 abbrev pub has_slot : ℕ → View → Bool
-has_slot i view = nat_le (need_of view.kind (i + 1)) (length view.data.now)
+has_slot i view = nat_le (need_of (values_in view.layout) (i + 1)) (length view.data.now)
 
 -- those of each column do
 abbrev pub have_slot : ℕ → List View → Bool

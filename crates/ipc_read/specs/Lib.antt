@@ -1,6 +1,7 @@
 pub mod Batches
 pub mod Faults
 pub mod Frames
+pub mod Layouts
 pub mod Looks
 pub mod Next
 pub mod Offsets

@@ -18,8 +18,8 @@ abbrev pub newest : Option Known → Option Known → Option Known
 newest before None = before
 newest before (Some known) = Some known
 
--- In front of what is still read stand batches, of whose rows this is so, and so many bytes are done
--- with.
+-- In front of what is still read stand batches, of whose rows this is so, and so many bytes are
+-- done with.
 pub record Looks
     (Took : List (List Cell) → Type 0) (before : Option Known) (place : ℕ) (bytes : List ℕ)
     (found : Option Known) (count : ℕ) (stand : Stand)

@@ -1,7 +1,8 @@
 -- Offsets of a column.
 use Rattle.std.specs.Prelude.{ℕ, ◌+◌, Bool, List, int_le}
+use Rattle.std.specs.Int.{Width}
 use Rattle.stream_spec.specs.Columns.{offset_of}
 
 -- the offset behind this one is not below it
-abbrev pub rises : List ℕ → ℕ → Bool
-rises offsets i = int_le (offset_of offsets i) (offset_of offsets (i + 1))
+abbrev pub rises : Width → List ℕ → ℕ → Bool
+rises width offsets i = int_le (offset_of width offsets i) (offset_of width offsets (i + 1))

@@ -104,7 +104,7 @@ fn are_buffers_of(columns: &[Column], count: usize) -> bool
 {
     let mut left = count;
     for column in columns {
-        let own = 1 + data_count(column.kind);
+        let own = 1 + data_count(&column.kind.values());
         if left < own {
             return false;
         }
@@ -143,8 +143,9 @@ fn views_of<'a>(
     let mut views = Vec::with_capacity(alloc, columns.len())?;
     let mut left = buffers;
     for (i, declared) in columns.iter().enumerate() {
-        let (own, others) = left.split_at(1 + data_count(declared.kind));
-        match column(body, declared.kind, rows, &nodes[i], &own[0], &own[1..]) {
+        let sort = declared.kind.values();
+        let (own, others) = left.split_at(1 + data_count(&sort));
+        match column(body, &sort, rows, &nodes[i], &own[0], &own[1..]) {
             Ok(view) => views.push(view)?,
             Err(cause) => return Err(NotRead::Fault(cause)),
         }

@@ -7,6 +7,7 @@ mod bits;
 mod faults;
 mod frames;
 mod known;
+mod layout;
 mod looking;
 mod message;
 mod offsets;

@@ -32,9 +32,9 @@ pub struct Looked {
     pub begun: Vec<u8>,
 }
 
-/// What is whole at the front of the bytes that have begun a message and the piece behind them. What
-/// is left of them is copied only where something is whole; where nothing has begun, the piece is
-/// looked at where it stands.
+/// What is whole at the front of the bytes that have begun a message and the piece behind them.
+/// What is left of them is copied only where something is whole; where nothing has begun, the piece
+/// is looked at where it stands.
 pub fn look_on<T: TakeBatches>(
     alloc: Global,
     known: &Option<Known>,

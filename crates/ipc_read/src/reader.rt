@@ -3,8 +3,8 @@ ghost use Rattle.std.specs.Prelude.{◌≡◌, ◌+◌, ◌<◌, ◌^◌, [], If
 ghost use Rattle.std.specs.Prelude.{Some, length, IsTrue, ◌↔◌};
 ghost use Rattle.std.specs.Option.{option_copied};
 ghost use Rattle.ipc_read.specs.Looks.{newest};
-ghost use Rattle.stream_pieces.specs.Pieces.{Feeds, FeedsTo, IsWaiting, end_fault, fault_of, opening};
-ghost use Rattle.stream_pieces.specs.Pieces.{no_more, schema_of, still_read};
+ghost use Rattle.stream_pieces.specs.Pieces.{Feeds, FeedsTo, IsWaiting, end_fault, fault_of};
+ghost use Rattle.stream_pieces.specs.Pieces.{no_more, opening, schema_of, still_read};
 ghost use Rattle.stream_pieces.specs.declared.stand.Stand.TheVariants as stand;
 
 use crate::known::Known;

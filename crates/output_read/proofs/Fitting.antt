@@ -1,26 +1,25 @@
 -- A row that fits columns is a row of replies, and its line is read as it.
-use Rattle.std.proofs.Common.{◌≡◌, ℕ, ◌+◌, ◌-◌, ◌^◌, ◌<◌, Bool, true, false, cond, List, [], ◌∷◌, ◌++◌, length, drop, Option, None, Some, Result, Ok, Err, refl, sym, ap, ◌∙◌, subst, arith, ℤ}
-use Rattle.std.specs.Prelude.{◌==◌, nat_le, pos, negsuc, is_none, int_le, bytes_eq, option_and_then, if◌then◌else◌}
+use Rattle.std.proofs.Common.{◌≡◌, ℕ, ◌+◌, ◌^◌, ◌<◌, Bool, true, false, cond, List, [], ◌∷◌, ◌++◌, length, drop, Option, None, Some, Result, Ok, Err, refl, sym, ap, ◌∙◌, subst, arith}
+use Rattle.std.specs.Prelude.{◌==◌, is_none, bytes_eq, option_and_then, if◌then◌else◌}
 use Rattle.std.specs.List.{list_all}
 use Rattle.std.specs.Result.{result_ok}
-use Rattle.std.proofs.lemmas.Bool.{and_parts, and_from, lt-ltb, leb-true, eqb-true, eq-eqb}
+use Rattle.std.proofs.lemmas.Bool.{and_parts, and_from, lt-ltb, eqb-true, eq-eqb}
 use Rattle.std.proofs.lemmas.Slice.Eq.{bytes_eq-Decides}
 use Rattle.cell_model.specs.declared.cell.Cell.{Cell}
 use Rattle.cell_model.specs.declared.cell.Cell.TheVariants.{Null, Num, Truth, Text, Blob}
 use Rattle.cell_model.specs.declared.column.Column.{Column}
-use Rattle.cell_model.specs.declared.kind.Kind.{Kind}
-use Rattle.cell_model.specs.declared.kind.Kind.TheVariants as kind
 use Rattle.cell_model.specs.declared.row.RowFault.{RowFault}
 use Rattle.cell_model.specs.declared.row.RowFault.TheVariants.{Arity}
 use Rattle.cell_model.specs.Rows.{cell_fault, first_fault, fits}
-use Rattle.cell_model.specs.Values.{is_between, is_integer_of, are_bytes, is_binary_kind}
+use Rattle.cell_model.specs.Kinds.{values_of, takes_bytes}
+use Rattle.cell_model.specs.Values.{are_bytes}
 use Rattle.workload_spec.specs.declared.script.Cause.{Cause}
 use Rattle.workload_spec.specs.Grammar.{cells_of}
 use Rattle.workload_spec.specs.ReplyText.{row_line}
 use Rattle.workload_spec.specs.Words.{cell_words}
 use Rattle.workload_laws.proofs.Apart.{plain_word}
 use Rattle.workload_laws.proofs.Cells.{cells_are, fault_at}
-use Rattle.workload_laws.proofs.CellsBack.{first_fits, value_of_fit}
+use Rattle.workload_laws.proofs.CellsBack.{first_fits, small_of, value_of_fit}
 use Rattle.outcome_spec.specs.Reading.{row_of, row_at, words_in}
 use Rattle.timeline_laws.proofs.Cells.{row_back}
 use Rattle.timeline_laws.proofs.ReadLines.{words_of_line}
@@ -32,37 +31,13 @@ use Rattle.std.specs.Prelude.{codes}
 pub never : false ≡ true → ⊥
 never h = let n : ⊥ = cc in n
 
--- A number between signed bounds of 63 bits has a magnitude that fits 64 bits.
-signed_small : (low high : ℕ) (z : ℤ) → low < 2 ^ 63 → high < 2 ^ 63 → is_between (negsuc low) (pos high) z ≡ true → magnitude z < 2 ^ 64
-signed_small low high (pos n) l h e = omega (arith, leb-true n high (and_parts (int_le (negsuc low) (pos n)) (nat_le n high) e).1, h)
-signed_small low high (negsuc n) l h e = omega (arith, leb-true n low (and_parts (nat_le n low) (int_le (negsuc n) (pos high)) e).0, l)
-
--- A number between zero and a bound of 64 bits has a magnitude that fits them.
-unsigned_small : (high : ℕ) (z : ℤ) → high < 2 ^ 64 → is_between (pos 0) (pos high) z ≡ true → magnitude z < 2 ^ 64
-unsigned_small high (pos n) h e = omega (arith, leb-true n high (and_parts (int_le (pos 0) (pos n)) (nat_le n high) e).1, h)
-unsigned_small high (negsuc n) h e = absurd cc
-
--- An integer of a kind has a magnitude that fits 64 bits.
-small_of : (k : Kind) (z : ℤ) → is_integer_of k z ≡ true → magnitude z < 2 ^ 64
-small_of kind.I8 z e = signed_small (2 ^ 7 - 1) (2 ^ 7 - 1) z (omega arith) (omega arith) e
-small_of kind.I16 z e = signed_small (2 ^ 15 - 1) (2 ^ 15 - 1) z (omega arith) (omega arith) e
-small_of kind.I32 z e = signed_small (2 ^ 31 - 1) (2 ^ 31 - 1) z (omega arith) (omega arith) e
-small_of kind.I64 z e = signed_small (2 ^ 63 - 1) (2 ^ 63 - 1) z (omega arith) (omega arith) e
-small_of kind.U8 z e = unsigned_small (2 ^ 8 - 1) z (omega arith) e
-small_of kind.U16 z e = unsigned_small (2 ^ 16 - 1) z (omega arith) e
-small_of kind.U32 z e = unsigned_small (2 ^ 32 - 1) z (omega arith) e
-small_of kind.U64 z e = unsigned_small (2 ^ 64 - 1) z (omega arith) e
-small_of kind.Bool z e = absurd cc
-small_of kind.Utf8 z e = absurd cc
-small_of kind.Binary z e = absurd cc
-
 -- A cell that fits a column is one of replies.
 cell_fits : (column : Column) (cell : Cell) → is_none (cell_fault 0 column cell) ≡ true → is_cell cell ≡ true
 cell_fits column Null fit = refl
-cell_fits column (Num z) fit = lt-ltb (magnitude z) (2 ^ 64) (small_of column.kind z (value_of_fit column (Num z) refl fit))
+cell_fits column (Num z) fit = lt-ltb (magnitude z) (2 ^ 64) (small_of (values_of column.kind) z (value_of_fit column (Num z) refl fit))
 cell_fits column (Truth truth) fit = refl
 cell_fits column (Text text) fit = refl
-cell_fits column (Blob bytes) fit = (and_parts (is_binary_kind column.kind) (are_bytes bytes) (value_of_fit column (Blob bytes) refl fit)).1
+cell_fits column (Blob bytes) fit = (and_parts (takes_bytes (values_of column.kind) (length bytes)) (are_bytes bytes) (value_of_fit column (Blob bytes) refl fit)).1
 
 -- Cells that fit their columns are those of replies.
 cells_fit : (columns : List Column) (cells : List Cell) (at : ℕ) → length cells ≡ length columns → is_none (first_fault at columns cells) ≡ true → list_all is_cell cells ≡ true

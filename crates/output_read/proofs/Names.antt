@@ -10,7 +10,7 @@ use Rattle.cell_model.specs.declared.table.TableDecl.{TableDecl}
 use Rattle.cell_model.specs.Schemas.{begins_with_key, first_twins, most_columns}
 use Rattle.workload_spec.specs.declared.command.Command.{Command}
 use Rattle.workload_spec.specs.declared.command.Command.TheVariants as command
-use Rattle.workload_spec.specs.Valid.{is_command, is_table, is_table_place, is_block_of, is_name, is_name_byte, is_lower_case, are_columns, are_slots, are_blocks, have_own_names}
+use Rattle.workload_spec.specs.Valid.{is_command, is_table, is_table_place, is_block_of, is_name, is_name_byte, is_lower_case, are_columns, are_slots, are_blocks, have_own_names, is_column}
 use Rattle.workload_laws.proofs.Apart.{is_plain}
 use Rattle.outcome_spec.specs.Tables.{columns_at}
 use Rattle.reply_text.specs.Shown.{is_u32, are_tables}
@@ -73,7 +73,7 @@ key-some (column ∷ columns) h = omega arith
 -- Valid columns are not none.
 columns-some : (columns : List Column) → are_columns columns ≡ true → 0 < length columns
 columns-some columns h =
-    let a = and_parts (begins_with_key columns && nat_le (length columns) most_columns && is_none (first_twins 0 columns)) (list_all (λ column. is_name column.name) columns) h in
+    let a = and_parts (begins_with_key columns && nat_le (length columns) most_columns && is_none (first_twins 0 columns)) (list_all is_column columns) h in
     let b = and_parts (begins_with_key columns && nat_le (length columns) most_columns) (is_none (first_twins 0 columns)) a.0 in
     key-some columns (and_parts (begins_with_key columns) (nat_le (length columns) most_columns) b.0).0
 

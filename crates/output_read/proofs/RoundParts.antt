@@ -12,7 +12,7 @@ use Rattle.workload_spec.specs.declared.reply.Who.{Who}
 use Rattle.workload_spec.specs.declared.reply.Who.TheVariants.{Session, Worker}
 use Rattle.workload_spec.specs.declared.script.Line.{Line}
 use Rattle.workload_spec.specs.declared.script.Script.{Script}
-use Rattle.workload_spec.specs.Valid.{is_valid, has_head, is_within as is_within_range, is_table, have_own_names, is_line, is_command, all_lines, is_export, most_tables, most_sessions, most_workers, most_turns}
+use Rattle.workload_spec.specs.Valid.{is_valid, has_head, is_within as is_within_range, is_table, have_own_names, is_line, is_command, all_lines, is_export, most_tables, most_sessions, most_workers, most_turns, has_version}
 use Rattle.outcome_spec.specs.Entries.{is_same}
 use Rattle.outcome_spec.specs.Forms.{Due, commands_of, dues_to, dues_in, dues_of, is_within, turn_of}
 use Rattle.reply_text.specs.Shown.{are_tables}
@@ -40,7 +40,7 @@ script-sound script h =
     let a = and_parts (has_head script && nat_lt 0 (length script.rounds) && list_all (is_line script) (all_lines script)) (nat_le (count_by (λ line. is_export line.command) (all_lines script)) 1) h in
     let b = and_parts (has_head script && nat_lt 0 (length script.rounds)) (list_all (is_line script) (all_lines script)) a.0 in
     let c = and_parts (has_head script) (nat_lt 0 (length script.rounds)) b.0 in
-    let first = script.version == 1 in
+    let first = has_version script in
     let second = is_within_range 1 most_tables (length script.tables) in
     let third = list_all is_table script.tables in
     let fourth = have_own_names script.tables in

@@ -9,7 +9,6 @@ use Rattle.workload_laws.proofs.OneGrammar.{read_is_text}
 use Rattle.workload_laws.proofs.Parts.{parts_some}
 use Rattle.workload_laws.proofs.Results.{step}
 use Rattle.workload_spec.specs.declared.script.Script.{Script}
-use Rattle.workload_spec.specs.Extents.{whole}
 use Rattle.workload_spec.specs.Grammar.{checked_in, checked_of, place_of_parting, script_in}
 use Rattle.workload_spec.specs.Reading.{onto_first, parted, parts}
 use Rattle.workload_spec.specs.Valid.{is_valid}
@@ -60,13 +59,13 @@ front_of separator (byte ∷ bytes) (suc place) =
 checked_valid : (bytes : List ℕ) (found : Script × List ℕ) → checked_of bytes ≡ Ok found → is_valid found.0 ≡ true
 checked_valid bytes found is = go (place_of_parting (parts line_feed bytes)) is
   where
-    go : (place : Option ℕ) → checked_in whole (parts line_feed bytes) place ≡ Ok found → is_valid found.0 ≡ true
-    go None e = step (script_in whole (parts line_feed bytes)) _ found e (λ script read never. absurd cc)
+    go : (place : Option ℕ) → checked_in (parts line_feed bytes) place ≡ Ok found → is_valid found.0 ≡ true
+    go None e = step (script_in (parts line_feed bytes)) _ found e (λ script read never. absurd cc)
     go (Some place) e =
         let front = front_of line_feed bytes place in
-        step (script_in whole (take place (parts line_feed bytes) ++ [] ∷ [])) _ found e (λ script read told.
+        step (script_in (take place (parts line_feed bytes) ++ [] ∷ [])) _ found e (λ script read told.
         let same : script ≡ found.0 = cc in
-        ap is_valid (sym same) ∙ (read_is_text whole front.bytes script refl (ap (script_in whole) front.are ∙ read)).1.valid)
+        ap is_valid (sym same) ∙ (read_is_text front.bytes script (ap script_in front.are ∙ read)).1)
 
 -- what is checked, where it is read, has a workload that is valid
 pub valid_checked : {X : Type 0} (view : X → Script × List ℕ) (bytes : List ℕ) (read : Result X ScriptFault) → LineGives view read (checked_of bytes) → IfOk read (λ x. is_valid (view x).0 ≡ true)

@@ -8,8 +8,7 @@ use Rattle.script_text.specs.declared.fault.ScriptFault.{ScriptFault}
 use Rattle.script_text.specs.declared.fault.ScriptFault.TheVariants as fault
 use Rattle.workload_laws.proofs.OneGrammar.{read_is_text}
 use Rattle.workload_spec.specs.declared.script.Script.{Script}
-use Rattle.workload_spec.specs.Extents.{whole}
-use Rattle.workload_spec.specs.Grammar.{read_with}
+use Rattle.workload_spec.specs.Grammar.{script_of}
 use Rattle.workload_spec.specs.ScriptText.{script_text}
 use Rattle.workload_spec.specs.Valid.{is_valid}
 use Rattle.program.specs.Outcome.{IsRefused, IsWorkload, Outside, Reads, RunEnds, ScriptEnds, outside}
@@ -21,20 +20,20 @@ use Rattle.program.specs.declared.status.Status.TheVariants as status
 
 -- bytes are the text of the workload that they are read as
 pub text_is : (bytes : List ℕ) (script : Script) → IsWorkload bytes script → script_text script ≡ bytes
-text_is bytes script read = (read_is_text whole bytes script refl read).0
+text_is bytes script read = (read_is_text bytes script read).0
 
 -- what bytes are read as is a workload
 pub read_valid : (bytes : List ℕ) (script : Script) → IsWorkload bytes script → is_valid script ≡ true
-read_valid bytes script read = (read_is_text whole bytes script refl read).1.valid
+read_valid bytes script read = (read_is_text bytes script read).1
 
 -- so is what was read of them
-pub valid_read : (bytes : List ℕ) (read : Result Script ScriptFault) → LineGives (λ script. script) read (read_with whole bytes) → IfOk read (λ script. is_valid script ≡ true)
+pub valid_read : (bytes : List ℕ) (read : Result Script ScriptFault) → LineGives (λ script. script) read (script_of bytes) → IfOk read (λ script. is_valid script ≡ true)
 valid_read bytes (Ok script) gives = read_valid bytes script gives
 valid_read bytes (Err bad) gives = tt
 
 -- a fault that is told is a bad line, the first of the bytes, which are refused
 told_fault : (Prints : Option (List ℕ) → Option (List ℕ) → List ℕ → Type 0) (bad : ScriptFault) (bytes : List ℕ) (left_old left_new printed_old printed_new exported : Option (List ℕ)) (started : Option (List (List ℕ)))
-    → Consumes left_old left_new bytes → IsAtEnd left_new → length bytes < 2 ^ 32 → LineFails bad (read_with whole bytes) → TellsFault Prints bad printed_old printed_new
+    → Consumes left_old left_new bytes → IsAtEnd left_new → length bytes < 2 ^ 32 → LineFails bad (script_of bytes) → TellsFault Prints bad printed_old printed_new
     → IsRefused Prints (outside left_old printed_old exported started) (outside left_new printed_new exported started)
 told_fault Prints (fault.Bad line cause) bytes left_old left_new printed_old printed_new exported started consumes ended short first printed = record {
   bytes = bytes;
@@ -49,7 +48,7 @@ told_fault Prints (fault.Memory refused) bytes left_old left_new printed_old pri
 -- how a run ends whose input was refused
 pub refusal_ends : (path : Option (List ℕ)) (ended : Status) (bad : ScriptFault) (bytes : List ℕ) (left_old left_new printed_old printed_new exported : Option (List ℕ)) (started : Option (List (List ℕ)))
     → Consumes left_old left_new bytes → IsAtEnd left_new → length bytes < 2 ^ 32
-    → LineFails bad (read_with whole bytes) → RefusalEnds bad ended printed_old printed_new
+    → LineFails bad (script_of bytes) → RefusalEnds bad ended printed_old printed_new
     → RunEnds path ended (outside left_old printed_old exported started) (outside left_new printed_new exported started)
 refusal_ends path status.Refused bad bytes left_old left_new printed_old printed_new exported started consumes ended short first told =
     told_fault Appends bad bytes left_old left_new printed_old printed_new exported started consumes ended short first told

@@ -12,8 +12,7 @@ use Rattle.stream_text.specs.Shown.{front_text, shown_text}
 use Rattle.export_spec.specs.Sent.{SaysAllSent, has_export}
 use Rattle.workload_spec.specs.declared.script.Line.{Line}
 use Rattle.workload_spec.specs.declared.script.Script.{Script}
-use Rattle.workload_spec.specs.Extents.{whole}
-use Rattle.workload_spec.specs.Grammar.{Fault, checked_of, read_with, refused_text}
+use Rattle.workload_spec.specs.Grammar.{Fault, checked_of, refused_text, script_of}
 use Rattle.workload_spec.specs.Words.{line_feed}
 use Rattle.outcome_spec.specs.Explained.{Explained, failing_line}
 use Rattle.run_spec.specs.Occurrences.{Logged}
@@ -84,7 +83,7 @@ Delivers (Some path) script ran output before now =
 
 -- The bytes are read as this workload.
 abbrev pub IsWorkload : List ℕ → Script → Type 0
-IsWorkload bytes script = read_with whole bytes ≡ Ok script
+IsWorkload bytes script = script_of bytes ≡ Ok script
 
 -- The bytes were read, to the end of the input, and are fewer than 2^32.
 pub record IsRead (bytes : List ℕ) (before now : Outside) : Type 0 where
@@ -113,11 +112,13 @@ pub record IsTold
   pub outlet : LeavesOutlet before now
 
 -- The input is no workload, and the line of its first fault is printed.
-pub record IsRefused (Prints : Option (List ℕ) → Option (List ℕ) → List ℕ → Type 0) (before now : Outside) : Type 0 where
+pub record IsRefused
+    (Prints : Option (List ℕ) → Option (List ℕ) → List ℕ → Type 0) (before now : Outside)
+    : Type 0 where
   pub bytes : List ℕ
   pub input : IsRead bytes before now
   pub fault : Fault
-  pub first : read_with whole bytes ≡ Err fault
+  pub first : script_of bytes ≡ Err fault
   pub printed : Prints before.printed now.printed (refused_text fault)
   pub outlet : LeavesOutlet before now
 
@@ -159,7 +160,9 @@ StopsAtExport path script before now =
 
 -- The workload has an export and the outlet failed: at its start, and then nothing was run, or at
 -- the export.
-pub record FailsExport (path : Option (List ℕ)) (script : Script) (before now : Outside) : Type 0 where
+pub record FailsExport
+    (path : Option (List ℕ)) (script : Script) (before now : Outside)
+    : Type 0 where
   pub named : IsSome path
   pub asked : has_export script ≡ true
   pub failed : IsSilent before now ⊎ StopsAtExport path script before now
@@ -206,15 +209,16 @@ pub record AreReadSoon (bytes : List ℕ) : Type 0 where
   pub small : length last ≤ 2 ^ 16
   pub going : IsOver front → ⊥
 
--- The bytes were read: to the end of the input, or to where what comes behind them is not looked at.
+-- The bytes were read: to the end of the input, or to where what comes behind them is not looked
+-- at.
 pub record IsReadThrough (bytes : List ℕ) (before now : Outside) : Type 0 where
   pub read : Consumes before.left now.left bytes
   pub ended : IsAtEnd now.left ⊎ IsOver bytes
   pub soon : AreReadSoon bytes
   pub short : length bytes < 2 ^ 32 + 2 ^ 16
 
--- The text of what they read as is printed: the columns, the rows and their count, or what stands in
--- front of the first fault, and that fault.
+-- The text of what they read as is printed: the columns, the rows and their count, or what stands
+-- in front of the first fault, and that fault.
 pub record IsShown (Faults : Option StreamFault → Type 0) (before now : Outside) : Type 0 where
   pub bytes : List ℕ
   pub input : IsReadThrough bytes before now
@@ -245,8 +249,8 @@ pub record IsShownInPart (before now : Outside) : Type 0 where
   pub printed : AppendsFront before.printed now.printed due
   pub outlet : LeavesOutlet before now
 
--- The lines in front of the last are printed, of the schema and of each row of a batch that is whole,
--- and more may come. Of bytes behind them, no more than a piece, nothing is shown.
+-- The lines in front of the last are printed, of the schema and of each row of a batch that is
+-- whole, and more may come. Of bytes behind them, no more than a piece, nothing is shown.
 pub record IsShownSoFar (shown lost : List ℕ) (before now : Outside) : Type 0 where
   pub read : Consumes before.left now.left (shown ++ lost)
   pub going : IsOver shown → ⊥
@@ -274,9 +278,11 @@ abbrev pub verdict_text : Option ℕ → List ℕ
 verdict_text None = codes "explained" ++ line_feed ∷ []
 verdict_text (Some line) = codes "not explained " ++ decimal line ++ line_feed ∷ []
 
--- The input was read to its end and is a workload of the whole format with an output behind it, and
--- it is printed whether the output is explained.
-pub record IsJudged (Prints : Option (List ℕ) → Option (List ℕ) → List ℕ → Type 0) (before now : Outside) : Type 0 where
+-- The input was read to its end and is a workload with an output behind it, and it is printed
+-- whether the output is explained.
+pub record IsJudged
+    (Prints : Option (List ℕ) → Option (List ℕ) → List ℕ → Type 0) (before now : Outside)
+    : Type 0 where
   pub bytes : List ℕ
   pub input : IsRead bytes before now
   pub script : Script
@@ -286,7 +292,9 @@ pub record IsJudged (Prints : Option (List ℕ) → Option (List ℕ) → List �
   pub outlet : LeavesOutlet before now
 
 -- The input is no workload with an output behind it, and the line of its first fault is printed.
-pub record IsNoneToCheck (Prints : Option (List ℕ) → Option (List ℕ) → List ℕ → Type 0) (before now : Outside) : Type 0 where
+pub record IsNoneToCheck
+    (Prints : Option (List ℕ) → Option (List ℕ) → List ℕ → Type 0) (before now : Outside)
+    : Type 0 where
   pub bytes : List ℕ
   pub input : IsRead bytes before now
   pub fault : Fault
@@ -385,8 +393,8 @@ is_flushed status.Memory = true
 is_flushed status.NotAStream = true
 is_flushed status.TooLong = true
 
--- The work ended, with a status that tells of no failed call, and the flush behind it failed: all that
--- was due is printed, and how much of it was handed on is not told.
+-- The work ended, with a status that tells of no failed call, and the flush behind it failed: all
+-- that was due is printed, and how much of it was handed on is not told.
 pub record FailsFlush (asked : Option Asked) (ended : Status) (before now : Outside) : Type 0 where
   pub told : ended ≡ status.OutFault
   pub worked : Status

@@ -27,7 +27,8 @@ pub record IsTold (all : List ℕ) (before printed : Option (List ℕ)) : Type 0
 -- A front of the lines is printed, or of the whole text where it is over.
 pub record IsToldInPart (all : List ℕ) (before printed : Option (List ℕ)) : Type 0 where
   pub due : List ℕ
-  pub is_due : (due ≡ front_text (reading_of all)) ⊎ (IsOver all × (due ≡ shown_text (reading_of all)))
+  pub is_due : (due ≡ front_text (reading_of all))
+      ⊎ (IsOver all × (due ≡ shown_text (reading_of all)))
   pub grown : AppendsFront before printed due
 
 -- What is printed where the program ends with a piece.
@@ -39,7 +40,8 @@ PieceEnds before fed piece status.Refused printed = ⊥
 PieceEnds before fed piece status.ReadFault printed = ⊥
 PieceEnds before fed piece status.OutFault printed = IsToldInPart (fed ++ piece) before printed
 PieceEnds before fed piece status.ExportFault printed = ⊥
-PieceEnds before fed piece status.Memory printed = Appends before printed (front_text (reading_of fed))
+PieceEnds before fed piece status.Memory printed =
+    Appends before printed (front_text (reading_of fed))
 PieceEnds before fed piece status.NotAStream printed =
     IsSome (reading_of (fed ++ piece)).fault × IsTold (fed ++ piece) before printed
 PieceEnds before fed piece status.TooLong printed = ⊥

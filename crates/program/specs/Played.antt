@@ -10,8 +10,8 @@ use Rattle.workload_spec.specs.declared.script.Script.{Script}
 use Rattle.program.specs.declared.status.Status.{Status}
 use Rattle.program.specs.declared.status.Status.TheVariants as status
 
--- How the rounds of a workload end, where `Goes asked ran text` says that rounds of these lines ran,
--- as these rounds, and had this text.
+-- How the rounds of a workload end, where `Goes asked ran text` says that rounds of these lines
+-- ran, as these rounds, and had this text.
 abbrev pub PlayEnds : OfRounds → Script → Status → Option (List ℕ) → Option (List ℕ) → Type 0
 PlayEnds Goes script status.Done before now = GoesWhole Goes script before now
 PlayEnds Goes script status.Usage before now = ⊥

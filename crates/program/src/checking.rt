@@ -15,7 +15,7 @@ use outcome_judge::{ExplainFault, explained};
 use script_text::{ScriptFault, parse_checked};
 use std::alloc::{AllocError, Global};
 use word_text::put_number;
-use workload_spec::{Extent, Script};
+use workload_spec::Script;
 
 /// Checks the output that stands behind a workload in what is read from the source to its end.
 pub(crate) fn check<S: Source, O: Sink>(alloc: Global, source: &mut S, out: &mut O) -> Status
@@ -40,12 +40,12 @@ pub(crate) fn check<S: Source, O: Sink>(alloc: Global, source: &mut S, out: &mut
     }
 }
 
-/// The workload of the whole format and the output behind it that the bytes are.
+/// The workload and the output behind it that the bytes are.
 fn parse_whole(alloc: Global, bytes: &[u8]) -> Result<(Script, &[u8]), ScriptFault>
     ensures read { LineGives (λ x. (x.0, x.1.now)) result (checked_of bytes.now) }
     ensures valid { IfOk result (λ x. is_valid x.0 ≡ true) }
 {
-    parse_checked(alloc, &Extent::whole(), bytes)
+    parse_checked(alloc, bytes)
 }
 
 /// The same with the output copied and the bytes let go: the judgement asks no more of those of the

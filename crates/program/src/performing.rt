@@ -5,8 +5,7 @@ ghost use Rattle.std.specs.Prelude.{if◌then◌else◌};
 ghost use Rattle.std.specs.List.{list_any};
 ghost use Rattle.byte_ports.specs.Calls.{Rose};
 ghost use Rattle.workload_spec.specs.Valid.{is_valid, is_export};
-ghost use Rattle.workload_spec.specs.Extents.{whole};
-ghost use Rattle.workload_spec.specs.Grammar.{read_with};
+ghost use Rattle.workload_spec.specs.Grammar.{script_of};
 ghost use Rattle.script_text.specs.Answers.{LineGives};
 ghost use Rattle.export_spec.specs.Sent.{has_export};
 ghost use Rattle.workload_spec.specs.ScriptText.{script_text};
@@ -32,7 +31,7 @@ use std::alloc::{AllocError, Global};
 use std::sync::Wait;
 use std::thread::Threads;
 use store_rounds::{RunFault, run_workload};
-use workload_spec::{Extent, Round, Script};
+use workload_spec::{Round, Script};
 
 /// As many bytes of input, or more, are too long.
 pub(crate) const MOST_BYTES: usize = 1 << 32;
@@ -41,8 +40,8 @@ pub(crate) const MOST_BYTES: usize = 1 << 32;
 /// end; the replies go to `out`, and the export to the outlet, which is started with the words'
 /// path. Without a path the export is dropped. Or they ask for a stream to be shown, which is read
 /// from the source in pieces, up to its end word or its first fault; its lines go to `out` as soon
-/// as they are decided. Or they ask for an output to be checked, which stands behind its workload in
-/// the source; whether it is explained goes to `out`. Or they ask for a generated workload, whose
+/// as they are decided. Or they ask for an output to be checked, which stands behind its workload
+/// in the source; whether it is explained goes to `out`. Or they ask for a generated workload, whose
 /// replies are counted; the counts go to `out`, and its export is dropped. Or they ask for help or
 /// for the version, which go to `out`.
 ///
@@ -176,10 +175,10 @@ fn run<R: Wait + Threads + Sync, S: Source, O: Sink, X: Outlet, G: Gate + Sync>(
 
 /// The workload that the bytes are.
 fn parse_script(alloc: Global, bytes: &[u8]) -> Result<Script, ScriptFault>
-    ensures read { LineGives (λ script. script) result (read_with whole bytes.now) }
+    ensures read { LineGives (λ script. script) result (script_of bytes.now) }
     ensures valid { IfOk result (λ script. is_valid script ≡ true) }
 {
-    parse(alloc, &Extent::whole(), bytes)
+    parse(alloc, bytes)
 }
 
 /// Prints at which line and for which cause the input is refused.

@@ -1,6 +1,7 @@
-//! Whole runs whose devices fail.
+//! Whole runs: of tables of each kind, and of devices that fail.
 mod gated;
 mod hostile;
+mod kinds;
 
 use crate::tests::gated::{Noted, NotingGate, NotingOutlet, NotingSink};
 use byte_ports::{ListOutlet, ListSink, ListSource};

@@ -8,7 +8,8 @@ pub mod Blocks
 pub mod Schemas
 pub mod TableLines
 pub mod RoundLines
-pub mod CellSpellings
+pub mod Spelled
 pub mod RowCells
 pub mod Flat
 pub mod Partings
+pub mod Marks

@@ -29,17 +29,17 @@ taken_name name columns = ap is_none (position_from-zero (λ (column : Column). 
 
 -- a column that is read, by the answers of its tests
 pub no_kind : (extent : Extent) (columns : List Column) (word : List ℕ) → is_name (before_colon word) ≡ true → list_any (λ column. bytes_eq column.name (before_colon word)) columns ≡ false
-    → kind_of (after_colon word) ≡ None → column_of extent columns word ≡ Err cause.Kind
+    → kind_of extent.later_kinds (after_colon word) ≡ None → column_of extent columns word ≡ Err cause.Kind
 no_kind extent columns word named own kind = rw (named, taken_name (before_colon word) columns, own, kind) refl
 
 -- a column more than there may be is a fault
 pub no_room : (extent : Extent) (columns : List Column) (word : List ℕ) (kind : Kind × Bool) → is_name (before_colon word) ≡ true → list_any (λ column. bytes_eq column.name (before_colon word)) columns ≡ false
-    → kind_of (after_colon word) ≡ Some kind → extent.columns ≤ length columns → column_of extent columns word ≡ Err cause.Columns
+    → kind_of extent.later_kinds (after_colon word) ≡ Some kind → extent.columns ≤ length columns → column_of extent columns word ≡ Err cause.Columns
 no_room extent columns word kind named own known full = rw (named, taken_name (before_colon word) columns, own, known, le-ltb (length columns) extent.columns full) refl
 
 -- a column's word with a new name and a kind is a column
 pub column_read : (extent : Extent) (columns : List Column) (word : List ℕ) (kind : Kind × Bool) → is_name (before_colon word) ≡ true → list_any (λ column. bytes_eq column.name (before_colon word)) columns ≡ false
-    → kind_of (after_colon word) ≡ Some kind → length columns < extent.columns → column_of extent columns word ≡ Ok (record { name = before_colon word; kind = kind.0; nullable = kind.1 })
+    → kind_of extent.later_kinds (after_colon word) ≡ Some kind → length columns < extent.columns → column_of extent columns word ≡ Ok (record { name = before_colon word; kind = kind.0; nullable = kind.1 })
 column_read extent columns word kind named own known room = rw (named, taken_name (before_colon word) columns, own, known, lt-ltb (length columns) extent.columns room) refl
 
 -- Where a test holds and a reading gives a value, what follows goes on with it.

@@ -5,15 +5,17 @@ use Rattle.workload_spec.specs.declared.extent.Extent.{Extent}
 use Rattle.workload_spec.specs.declared.script.Cause.TheVariants as cause
 use Rattle.workload_spec.specs.declared.script.Script.{Script}
 use Rattle.workload_spec.specs.Reading.{words_of}
-use Rattle.workload_spec.specs.Grammar.{◌>>=◌, rule, Fault, on_line, next_line, is_table_line}
-use Rattle.workload_spec.specs.Grammar.{tables_from, rounds_from, sessions_of, workers_of}
+use Rattle.workload_spec.specs.Extents.{extent_of}
+use Rattle.workload_spec.specs.Grammar.{◌>>=◌, or_cause, rule, Fault, on_line, next_line}
+use Rattle.workload_spec.specs.Grammar.{is_table_line, tables_from, rounds_from, sessions_of}
+use Rattle.workload_spec.specs.Grammar.{workers_of, version_of, script_behind}
 
--- the lines behind `store 1`
-abbrev pub version_in : List (List ℕ) → Result (List (List ℕ)) Fault
+-- the version that the first line names, and the lines behind it
+abbrev pub version_in : List (List ℕ) → Result (ℕ × List (List ℕ)) Fault
 version_in all = do
   store ← next_line 1 cause.Version all
-  version ← on_line 1 (rule cause.Version (bytes_eq store.0 (codes "store 1")))
-  Ok store.1
+  version ← on_line 1 (or_cause cause.Version (version_of store.0))
+  Ok (version, store.1)
 
 -- the tables, one at least, and the lines behind theirs
 abbrev pub tables_in : Extent → List (List ℕ) → Result (List TableDecl × List (List ℕ)) Fault
@@ -43,21 +45,26 @@ go_in at all = do
   goes ← on_line at (rule cause.Go (bytes_eq line.0 (codes "go")))
   Ok line.1
 
--- the workload, head and rounds
-abbrev pub script_read : Extent → List (List ℕ) → Result Script Fault
-script_read extent all = do
-  rest ← version_in all
-  tables ← tables_in extent rest
+-- the workload of a version behind its line, head and rounds
+abbrev pub behind_read : ℕ → Extent → List (List ℕ) → Result Script Fault
+behind_read version extent all = do
+  tables ← tables_in extent all
   let behind = length tables.0 + 2
   sessions ← sessions_in extent behind tables.1
   workers ← workers_in extent (behind + 1) sessions.1
   go ← go_in (behind + 2) workers.1
   rounds ← rounds_from extent tables.0 sessions.0 (behind + 3) false go
   Ok (record {
-    version = 1;
+    version = version;
     tables = tables.0;
     sessions = sessions.0;
     workers = workers.0.0;
     turns = workers.0.1;
     rounds = rounds;
   })
+
+-- the workload, its version and what stands behind
+abbrev pub script_read : List (List ℕ) → Result Script Fault
+script_read all = do
+  version ← version_in all
+  script_behind version.0 (extent_of version.0) version.1

@@ -10,7 +10,7 @@ ghost use Rattle.script_text.specs.Commands.{row_read};
 ghost use Rattle.script_text.specs.Answers.{Gives};
 
 use crate::fault::WordFault;
-use cell_model::{Cell, Column, Kind, Row};
+use cell_model::{Cell, Column, Row, Values};
 use std::alloc::{AllocError, Global};
 use word_read::{blob_of, integer, text_of, truth_of, word_behind};
 use workload_spec::Cause;
@@ -41,14 +41,14 @@ pub fn row_of<'a>(
 }
 
 /// The cell of a column that the word spells.
-#[tactic(auto, using(crate::proofs::CellSpellings::cell_null, crate::proofs::CellSpellings::cell_value))]
+#[tactic(auto, using(crate::proofs::Spelled::cell_null, crate::proofs::Spelled::cell_value))]
 fn cell_of(alloc: Global, column: &Column, word: &[u8]) -> Result<Cell, WordFault>
     ensures { Gives (λ cell. cell) result (or_cause cause.Cell (cell_of column.now word.now)) }
 {
     let spelled = if word == b"null".as_slice() {
         Some(Cell::Null)
     } else {
-        value_of(alloc, column.kind, word)?
+        value_of(alloc, column.kind.values(), word)?
     };
     match spelled {
         Some(cell) if column.check(0, &cell).is_ok() => Ok(cell),
@@ -56,22 +56,15 @@ fn cell_of(alloc: Global, column: &Column, word: &[u8]) -> Result<Cell, WordFaul
     }
 }
 
-/// The value that the word spells for a kind; none where it spells none, or an integer that no kind
+/// The value of these that the word spells; none where it spells none, or an integer that no kind
 /// has.
-fn value_of(alloc: Global, kind: Kind, word: &[u8]) -> Result<Option<Cell>, AllocError>
-    ensures { IfOk result (λ cell. cell ≡ value_spelled kind word.now) }
+fn value_of(alloc: Global, values: Values, word: &[u8]) -> Result<Option<Cell>, AllocError>
+    ensures { IfOk result (λ cell. cell ≡ value_spelled values word.now) }
 {
-    match kind {
-        Kind::Bool => Ok(truth_of(word).map(Cell::Truth)),
-        Kind::Utf8 => Ok(text_of(alloc, word)?.map(Cell::Text)),
-        Kind::Binary => Ok(blob_of(alloc, word)?.map(Cell::Blob)),
-        Kind::I8
-        | Kind::I16
-        | Kind::I32
-        | Kind::I64
-        | Kind::U8
-        | Kind::U16
-        | Kind::U32
-        | Kind::U64 => Ok(integer(word).map(Cell::Num)),
+    match values {
+        Values::Signed(_) | Values::Unsigned(_) => Ok(integer(word).map(Cell::Num)),
+        Values::Truths => Ok(truth_of(word).map(Cell::Truth)),
+        Values::Texts(_) => Ok(text_of(alloc, word)?.map(Cell::Text)),
+        Values::Blobs(_) | Values::Strips(_) => Ok(blob_of(alloc, word)?.map(Cell::Blob)),
     }
 }

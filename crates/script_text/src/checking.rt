@@ -1,9 +1,8 @@
 //! A workload and the output behind it, which a line `====` parts.
-ghost use Rattle.std.specs.Prelude.{◌≡◌, true, None, IfSome, IfNone};
+ghost use Rattle.std.specs.Prelude.{◌≡◌, None, IfSome, IfNone};
 ghost use Rattle.workload_spec.specs.Words.{line_feed};
 ghost use Rattle.workload_spec.specs.Reading.{parts};
-ghost use Rattle.workload_spec.specs.Extents.{is_extent};
-ghost use Rattle.workload_spec.specs.Grammar.{checked_with, place_of_parting};
+ghost use Rattle.workload_spec.specs.Grammar.{checked_of, place_of_parting};
 ghost use Rattle.script_text.specs.Partings.{IsParted};
 ghost use Rattle.script_text.specs.Answers.{LineGives};
 
@@ -11,26 +10,20 @@ use crate::fault::ScriptFault;
 use crate::parsing::parse;
 use std::alloc::Global;
 use word_read::{part_count, split_line};
-use workload_spec::{Cause, Extent, Script};
+use workload_spec::{Cause, Script};
 
-/// The workload within the extent before the first line `====`, and the bytes behind that line;
-/// else the first line that is none of a workload, and where there is none that the parting is
-/// wanting.
-pub fn parse_checked<'a>(
-    alloc: Global,
-    extent: &Extent,
-    bytes: &'a [u8],
-) -> Result<(Script, &'a [u8]), ScriptFault>
-    requires { is_extent extent.now ≡ true }
-    ensures { LineGives (λ x. (x.0, x.1.now)) result (checked_with extent.now bytes.now) }
+/// The workload before the first line `====`, and the bytes behind that line; else the first line
+/// that is none of a workload, and where there is none that the parting is wanting.
+pub fn parse_checked<'a>(alloc: Global, bytes: &'a [u8]) -> Result<(Script, &'a [u8]), ScriptFault>
+    ensures { LineGives (λ x. (x.0, x.1.now)) result (checked_of bytes.now) }
 {
     match split_parting(bytes) {
         Some((workload, output)) => {
-            let script = parse(alloc, extent, workload)?;
+            let script = parse(alloc, workload)?;
             Ok((script, output))
         }
         None => {
-            let _whole = parse(alloc, extent, bytes)?;
+            let _whole = parse(alloc, bytes)?;
             Err(ScriptFault::Bad {
                 line: part_count(bytes),
                 cause: Cause::Parting,

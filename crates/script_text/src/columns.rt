@@ -104,7 +104,7 @@ fn column_of(
     if is_taken(columns, name) {
         return Err(WordFault::Bad(Cause::Twice));
     }
-    let Some((kind, nullable)) = kind_of(kind) else {
+    let Some((kind, nullable)) = kind_of(extent.later_kinds, kind) else {
         return Err(WordFault::Bad(Cause::Kind));
     };
     if columns.len() >= extent.columns as usize {

@@ -3,7 +3,7 @@ ghost use Rattle.std.specs.Prelude.{◌≡◌, ◌<◌, ◌^◌, [], true, IfOk,
 ghost use Rattle.workload_spec.specs.Words.{line_feed};
 ghost use Rattle.workload_spec.specs.Reading.{parts};
 ghost use Rattle.workload_spec.specs.Extents.{is_extent};
-ghost use Rattle.workload_spec.specs.Grammar.{read_with, tables_from};
+ghost use Rattle.workload_spec.specs.Grammar.{script_behind, script_of, tables_from, version_of};
 ghost use Rattle.script_text.specs.Heads.{version_in, tables_in, sessions_in, workers_in, go_in};
 ghost use Rattle.script_text.specs.Answers.{LineGives};
 
@@ -17,44 +17,69 @@ use std::alloc::Global;
 use word_read::split_line;
 use workload_spec::{Cause, Extent, Rounds, Script};
 
-/// The workload within the extent that the bytes are, or the first line that is none of one,
-/// counted from 1, with the cause of the first word or rule on it that fails. An extent has room
-/// for a column, and no more than the whole format.
-pub fn parse(alloc: Global, extent: &Extent, bytes: &[u8]) -> Result<Script, ScriptFault>
-    requires { is_extent extent.now ≡ true }
-    ensures { LineGives (λ script. script) result (read_with extent.now bytes.now) }
+/// The workload that the bytes are, or the first line that is none of one, counted from 1, with the
+/// cause of the first word or rule on it that fails.
+pub fn parse(alloc: Global, bytes: &[u8]) -> Result<Script, ScriptFault>
+    ensures { LineGives (λ script. script) result (script_of bytes.now) }
 {
-    let rest = behind_version(bytes)?;
-    let (tables, rest) = tables_of(alloc, extent, rest)?;
+    let (version, rest) = version_in(bytes)?;
+    parse_behind(alloc, version, &Extent::of(version), rest)
+}
+
+/// The version that the first line names, and what stands behind it.
+fn version_in(bytes: &[u8]) -> Result<(u32, &[u8]), ScriptFault>
+    ensures { LineGives (λ x. (x.0, parts line_feed x.1.now)) result
+        (version_in (parts line_feed bytes.now)) }
+{
+    let (line, rest) = next_line(1, Cause::Version, bytes)?;
+    match version_of(line) {
+        Some(version) => Ok((version, rest)),
+        None => Err(ScriptFault::Bad {
+            line: 1,
+            cause: Cause::Version,
+        }),
+    }
+}
+
+/// The version that the line names, if it names one.
+fn version_of(line: &[u8]) -> Option<u32>
+    ensures { result ≡ version_of line.now }
+{
+    if line == b"store 1".as_slice() {
+        Some(1)
+    } else if line == b"store 2".as_slice() {
+        Some(2)
+    } else {
+        None
+    }
+}
+
+/// The workload of a version, within an extent, that the bytes behind the first line are. An extent
+/// has room for a column, and no more than the whole format.
+fn parse_behind(
+    alloc: Global,
+    version: u32,
+    extent: &Extent,
+    bytes: &[u8],
+) -> Result<Script, ScriptFault>
+    requires { is_extent extent.now ≡ true }
+    ensures { LineGives (λ script. script) result
+        (script_behind version extent.now (parts line_feed bytes.now)) }
+{
+    let (tables, rest) = tables_of(alloc, extent, bytes)?;
     let at = tables.len() as u64 + 2;
     let (sessions, rest) = sessions_in(extent, at, rest)?;
     let ((workers, turns), rest) = workers_in(extent, at + 1, rest)?;
     let rest = behind_go(at + 2, rest)?;
     let rounds = rounds_of(alloc, extent, &tables, sessions, at + 3, rest)?;
     Ok(Script {
-        version: 1,
+        version,
         tables: tables.into_tables(),
         sessions,
         workers,
         turns,
         rounds: Rounds::from(rounds),
     })
-}
-
-/// What stands behind the line `store 1`.
-fn behind_version(bytes: &[u8]) -> Result<&[u8], ScriptFault>
-    ensures { LineGives (λ rest. parts line_feed rest.now) result
-        (version_in (parts line_feed bytes.now)) }
-{
-    let (line, rest) = next_line(1, Cause::Version, bytes)?;
-    if line == b"store 1".as_slice() {
-        Ok(rest)
-    } else {
-        Err(ScriptFault::Bad {
-            line: 1,
-            cause: Cause::Version,
-        })
-    }
 }
 
 /// The tables, of which there is one at least, and what stands behind their lines.

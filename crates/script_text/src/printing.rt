@@ -10,7 +10,7 @@ ghost use Rattle.word_text.specs.Words.{behind_spaces};
 
 use cell_model::{Bytes, Column, Row, TableDecl};
 use std::alloc::{AllocError, Global};
-use word_text::{kind_text, put_cells, put_key, put_natural, put_number, put_table_name, put_word};
+use word_text::{put_cells, put_key, put_kind, put_natural, put_number, put_table_name, put_word};
 use workload_spec::{Command, Line, Round, Script};
 
 /// The words of a command on a table.
@@ -155,7 +155,7 @@ fn put_column(out: &mut Vec<u8>, column: &Column) -> Result<(), AllocError>
 {
     out.extend_from_slice(column.name.as_slice())?;
     out.push(b':')?;
-    out.extend_from_slice(kind_text(column.kind))?;
+    put_kind(out, column.kind)?;
     if column.nullable {
         out.push(b'?')?;
     }

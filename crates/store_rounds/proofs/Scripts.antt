@@ -4,14 +4,13 @@ use Rattle.std.specs.Prelude.{All, is_none}
 use Rattle.std.specs.List.{list_all}
 use Rattle.std.proofs.lemmas.Bool.{and_parts, leb-true}
 use Rattle.std.proofs.lemmas.List.Elements.{All-cons, All-nil}
-use Rattle.cell_model.specs.declared.column.Column.{Column}
 use Rattle.cell_model.specs.declared.table.TableDecl.{TableDecl}
 use Rattle.cell_model.specs.Schemas.{IsSchema, begins_with_key, first_twins, most_columns, most_slots_of, row_bits}
 use Rattle.engine_core.specs.Core.{MayOpen}
 use Rattle.script_text.proofs.Schemas.{all_named}
 use Rattle.workload_spec.specs.declared.script.Line.{Line}
 use Rattle.workload_spec.specs.declared.script.Script.{Script}
-use Rattle.workload_spec.specs.Valid.{all_lines, are_blocks, are_columns, are_slots, has_head, have_own_names, is_export, is_line, is_name, is_table, is_valid, is_within, least_slots, most_blocks, most_sessions, most_tables, most_turns, most_workers}
+use Rattle.workload_spec.specs.Valid.{all_lines, are_blocks, are_columns, are_slots, has_head, have_own_names, is_export, is_line, is_name, is_table, is_valid, is_within, least_slots, most_blocks, most_sessions, most_tables, most_turns, most_workers, has_version, is_column}
 
 -- the parts of a conjunction
 parts_of_four : (a b c d : Bool) → (a && b && c && d) ≡ true → (a ≡ true) × (b ≡ true) × (c ≡ true) × (d ≡ true)
@@ -58,7 +57,7 @@ none_is (Some x) none = absurd cc
 declared : (table : TableDecl) → is_table table ≡ true → Declared table
 declared table valid =
     let parts = parts_of_four (is_name table.name) (are_columns table.schema) (are_slots table.schema table.slots) (are_blocks table.blocks) valid in
-    let columns = parts_of_four (begins_with_key table.schema) (nat_le (length table.schema) most_columns) (is_none (first_twins 0 table.schema)) (list_all (λ (column : Column). is_name column.name) table.schema) parts.1 in
+    let columns = parts_of_four (begins_with_key table.schema) (nat_le (length table.schema) most_columns) (is_none (first_twins 0 table.schema)) (list_all is_column table.schema) parts.1 in
     let slots = (and_parts (is_within least_slots (most_slots_of table.schema) table.slots) (table.slots % 8 == 0) parts.2).0 in
     let bounds = and_parts (nat_le least_slots table.slots) (nat_le table.slots (most_slots_of table.schema)) slots in
     let low : 8 ≤ table.slots = leb-true least_slots table.slots bounds.0 in
@@ -97,7 +96,7 @@ parts_of : (script : Script) → is_valid script ≡ true → Parts script
 parts_of script valid =
     let whole = parts_of_four (has_head script) (nat_lt 0 (length script.rounds)) (list_all (is_line script) (all_lines script))
     (nat_le (count_by (λ (line : Line). is_export line.command) (all_lines script)) 1) valid in
-    let head = parts_of_seven (script.version == 1) (is_within 1 most_tables (length script.tables)) (list_all is_table script.tables) (have_own_names script.tables)
+    let head = parts_of_seven (has_version script) (is_within 1 most_tables (length script.tables)) (list_all is_table script.tables) (have_own_names script.tables)
     (is_within 1 most_sessions script.sessions) (nat_le script.workers most_workers) (nat_le script.turns most_turns) whole.0 in
     let sessions = and_parts (nat_le 1 script.sessions) (nat_le script.sessions most_sessions) head.4 in
     let tables = and_parts (nat_le 1 (length script.tables)) (nat_le (length script.tables) most_tables) head.1 in

@@ -8,7 +8,9 @@ use Rattle.arrow_spec.specs.Batches.{Batch, batch_of, buffer_places}
 use Rattle.arrow_spec.specs.Bytes.{padded}
 use Rattle.arrow_spec.specs.Metadata.{Header, record_batch, flatbuffer_of}
 use Rattle.stream_spec.specs.Columns.{buffer_count, data_count}
-use Rattle.cell_model.specs.Kinds.{Values, signed, unsigned, truths, texts, blobs, values_of}
+use Rattle.cell_model.specs.Kinds.{values_of}
+use Rattle.cell_model.specs.declared.values.Values.{Values}
+use Rattle.cell_model.specs.declared.values.Values.TheVariants.{Signed, Unsigned, Truths, Texts, Blobs, Strips}
 use Rattle.stream_spec.specs.declared.fault.Cause.{Cause}
 use Rattle.stream_spec.specs.Streams.{BatchRead}
 use Rattle.stream_laws.specs.Laws.{BatchIsRead}
@@ -21,11 +23,12 @@ use Rattle.stream_laws.proofs.BodySizes.{body-short, nodes-fit, places-fit}
 
 -- At most two buffers stand behind the validity of a column.
 few-data : (values : Values) → data_count values ≤ 2
-few-data (signed width) = omega arith
-few-data (unsigned width) = omega arith
-few-data truths = omega arith
-few-data texts = omega arith
-few-data blobs = omega arith
+few-data (Signed width) = omega arith
+few-data (Unsigned width) = omega arith
+few-data Truths = omega arith
+few-data (Texts width) = omega arith
+few-data (Blobs width) = omega arith
+few-data (Strips bytes) = omega arith
 
 -- There is one place for each buffer.
 length-buffer_places : (from : ℕ) (buffers : List (List ℕ))
@@ -52,7 +55,7 @@ batch_is_read columns rows rest told is =
     let buffers : HasBuffers body 0 (buffers_from 0 columns rows) =
     buffers-there body 0 (buffers_from 0 columns rows) (has-whole body) in
     let body_small : length body < 2 ^ 63 =
-    omega (arith, body-short 0 columns rows is.few (λ i inside. (each i inside).slots), told.few) in
+    omega (arith, body-short 0 columns rows is.few told.named.each (λ i inside. (each i inside).slots), told.few) in
     let places_count : length batch.buffers ≡ buffer_count columns =
     length-buffer_places 0 (buffers_from 0 columns rows) ∙ length-buffers 0 columns rows in
     let size : length laid ≡ 96 + 16 * length batch.nodes + 16 * length batch.buffers =

@@ -2,12 +2,14 @@
 use Rattle.std.proofs.Common.{◌≡◌, ℕ, pos, suc, ◌+◌, ◌-◌, ◌*◌, ◌^◌, ◌≤◌, true, List, [], ◌∷◌, ◌++◌, length, map, replicate, refl, ap, ◌∙◌, subst, arith, inl, inr, length-append, Ok}
 use Rattle.std.specs.Prelude.{◌==◌, ◌||◌, nat_le, flat_map}
 use Rattle.std.proofs.lemmas.Bool.{and_from, or_left, or_right, le-leb, le-ltb, eq-eqb}
-use Rattle.std.specs.Int.{Width, w32, byte_len, next_multiple_of, to_le_bytes}
+use Rattle.std.specs.Int.{Width, byte_len, next_multiple_of, to_le_bytes}
 use Rattle.std.specs.Ordering.{int_eq}
-use Rattle.cell_model.specs.Kinds.{Values, signed, unsigned, truths, texts, blobs}
+use Rattle.cell_model.specs.Widths.{number_width, offset_width}
 use Rattle.std.proofs.lemmas.List.{length-map}
 use Rattle.cell_model.specs.declared.cell.Cell.{Cell}
-use Rattle.arrow_spec.specs.Arrays.{layout_in, data_buffers, validity, null_count, number_of, offsets, truth_of}
+use Rattle.cell_model.specs.declared.values.Values.{Values}
+use Rattle.cell_model.specs.declared.values.Values.TheVariants.{Signed, Unsigned, Truths, Texts, Blobs, Strips}
+use Rattle.arrow_spec.specs.Arrays.{layout_in, data_buffers, validity, null_count, number_of, offsets, strip_of, truth_of}
 use Rattle.arrow_spec.specs.Batches.{buffer_places}
 use Rattle.arrow_spec.specs.Bytes.{number_bytes, padded}
 use Rattle.stream_spec.specs.declared.message.BufferPlace.{BufferPlace}
@@ -16,7 +18,7 @@ use Rattle.stream_laws.proofs.Pieces.{Has, has-left, has-right, has-taken, lengt
 use Rattle.stream_laws.proofs.Parts.{length-pieces}
 use Rattle.stream_laws.proofs.BatchTables.{buffer_of}
 use Rattle.stream_laws.proofs.Bitmaps.{length-bitmap, nulls-back, validity-long}
-use Rattle.stream_laws.proofs.Cells.{AllSlots, cells-back, length-offsets, offsets-are, texts-are, values-few}
+use Rattle.stream_laws.proofs.Cells.{AllSlots, cells-back, length-offsets, length-strip, offsets-are, texts-are, values-few}
 
 -- ---- buffers one after another
 
@@ -127,12 +129,19 @@ length-numbers width cells =
     length-pieces (λ cell. number_bytes width (number_of cell)) (byte_len width) cells
     (λ cell. length-number width _)
 
+-- offsets take so many bytes for each cell and one more
+pub length-ends : (width : Width) (cells : List Cell)
+    → length (flat_map (to_le_bytes width) (offsets 0 cells)) ≡ (length cells + 1) * byte_len width
+length-ends width cells =
+    length-pieces (to_le_bytes width) (byte_len width) (offsets 0 cells) (length-number width)
+    ∙ ap (λ (n : ℕ). n * byte_len width) (length-offsets 0 cells)
+
 -- The data buffers of a column are at least as long as its cells need.
 data-long : (values : Values) (cells : List Cell)
     → AreLong (data_needs values (length cells)) (data_buffers (layout_in values) cells)
-data-long (signed width) cells = (omega (arith, length-numbers width cells), tt)
-data-long (unsigned width) cells = (omega (arith, length-numbers width cells), tt)
-data-long truths cells = (
+data-long (Signed width) cells = (omega (arith, length-numbers (number_width width) cells), tt)
+data-long (Unsigned width) cells = (omega (arith, length-numbers (number_width width) cells), tt)
+data-long Truths cells = (
   omega (
     arith,
     length-bitmap (map truth_of cells)
@@ -140,21 +149,17 @@ data-long truths cells = (
   ),
   tt,
 )
-data-long texts cells = (
-  omega (
-    arith,
-    length-pieces (to_le_bytes w32) 4 (offsets 0 cells) (length-number w32),
-    length-offsets 0 cells,
-  ),
+data-long (Texts width) cells = (
+  omega (arith, length-ends (offset_width width) cells),
   (omega arith, tt),
 )
-data-long blobs cells = (
-  omega (
-    arith,
-    length-pieces (to_le_bytes w32) 4 (offsets 0 cells) (length-number w32),
-    length-offsets 0 cells,
-  ),
+data-long (Blobs width) cells = (
+  omega (arith, length-ends (offset_width width) cells),
   (omega arith, tt),
+)
+data-long (Strips bytes) cells = (
+  omega (arith, length-pieces (strip_of bytes) bytes cells (length-strip bytes)),
+  tt,
 )
 
 -- The validity of a column passes the reader's test where it lies in the body.
@@ -182,11 +187,12 @@ same-count n = let test = le-ltb n n (omega arith) in rw test refl
 -- how many buffers stand behind the validity
 pub length-data : (values : Values) (cells : List Cell)
     → length (data_buffers (layout_in values) cells) ≡ data_count values
-length-data (signed width) cells = refl
-length-data (unsigned width) cells = refl
-length-data truths cells = refl
-length-data texts cells = refl
-length-data blobs cells = refl
+length-data (Signed width) cells = refl
+length-data (Unsigned width) cells = refl
+length-data Truths cells = refl
+length-data (Texts width) cells = refl
+length-data (Blobs width) cells = refl
+length-data (Strips bytes) cells = refl
 
 -- The cells of a column are read back from where its buffers lie.
 pub column-read : (body : List ℕ) (from : ℕ) (values : Values) (cells : List Cell)

@@ -1,18 +1,24 @@
 -- The cells of a column, read back from its buffers.
-use Rattle.std.proofs.Common.{◌≡◌, ℕ, ℤ, pos, negsuc, zero, suc, ◌+◌, ◌-◌, ◌*◌, ◌^◌, ◌<◌, ◌≤◌, Bool, true, false, List, [], ◌∷◌, length, take, get_or, refl, sym, ap, ◌∙◌, subst, arith, length-append, lit<}
+use Rattle.std.proofs.Common.{◌≡◌, ℕ, ℤ, pos, negsuc, zero, suc, ◌+◌, ◌-◌, ◌*◌, ◌^◌, ◌<◌, ◌≤◌, Bool, true, false, List, [], ◌∷◌, ◌++◌, length, take, drop, get_or, replicate, refl, sym, ap, ◌∙◌, subst, arith, length-append, lit<}
 use Rattle.std.specs.Prelude.{not, ◌==◌, ◌&&◌, nat_le, int_le, flat_map, if◌then◌else◌}
-use Rattle.std.proofs.lemmas.Bool.{and_parts, and_from, or_right, leb-true, le-leb}
+use Rattle.std.proofs.lemmas.Bool.{and_parts, and_from, or_right, eqb-true, leb-true, le-leb}
+use Rattle.std.proofs.lemmas.List.{length-replicate, length-take-le, take-append-le, take_all}
 use Rattle.std.proofs.lemmas.Int.{to_z_pos}
 use Rattle.std.proofs.lemmas.List.FromFn.{fill_by_all}
 use Rattle.std.specs.Int.{Width, w8, w16, w32, w64, w128, byte_len, cast_signed, to_le_bytes}
 use Rattle.std.specs.List.{list_all, range_with_len}
 use Rattle.std.specs.Str.{is_utf8}
 use mir.Val.{SFits, hbits}
-use Rattle.cell_model.specs.Kinds.{Values, signed, unsigned, truths, texts, blobs, are_truths, are_texts, are_blobs}
-use Rattle.cell_model.specs.Values.{is_integer_in, is_null, are_bytes, byte_length, most_bytes}
+use Rattle.cell_model.specs.Kinds.{are_texts, most_bytes_in}
+use Rattle.cell_model.specs.Values.{is_signed_of, is_unsigned_of, is_value_in, is_null, are_bytes, byte_length}
+use Rattle.cell_model.specs.Widths.{number_width, offset_width, most_between}
 use Rattle.cell_model.specs.declared.cell.Cell.{Cell}
 use Rattle.cell_model.specs.declared.cell.Cell.TheVariants.{Null, Num, Truth, Text, Blob}
-use Rattle.arrow_spec.specs.Arrays.{layout_in, data_buffers, validity, number_of, offsets, value_of as bytes_of_value, truth_of}
+use Rattle.cell_model.specs.declared.values.Values.{Values}
+use Rattle.cell_model.specs.declared.values.Values.TheVariants.{Signed, Unsigned, Truths, Texts, Blobs, Strips}
+use Rattle.cell_model.specs.declared.width.OffsetWidth.{OffsetWidth}
+use Rattle.cell_model.specs.declared.width.OffsetWidth.TheVariants as offset
+use Rattle.arrow_spec.specs.Arrays.{layout_in, data_buffers, validity, number_of, offsets, strip_of, value_of as bytes_of_value, truth_of}
 use Rattle.arrow_spec.specs.Bytes.{number_bytes}
 use Rattle.flat_read.specs.Reading.{number_from}
 use Rattle.stream_spec.specs.Columns.{are_offsets, has_offsets, offset_of, value_of, value_at, cell_at, cells_of, is_text}
@@ -22,18 +28,10 @@ use Rattle.stream_laws.proofs.Bitmaps.{valid-back, truth-back}
 
 -- ---- what a slot may hold
 
--- the cell is one of the values
-abbrev pub is_value_in : Values → Cell → Bool
-is_value_in values Null = false
-is_value_in values (Num number) = is_integer_in values number
-is_value_in values (Truth truth) = are_truths values
-is_value_in values (Text text) = are_texts values && is_utf8 text
-is_value_in values (Blob bytes) = are_blobs values && are_bytes bytes
-
 -- a slot is null, or has one of the values, which is not too long
 pub data IsSlot (values : Values) (cell : Cell) : Type 0 where
   null : is_null cell ≡ true → IsSlot values cell
-  value : is_null cell ≡ false → is_value_in values cell ≡ true → byte_length cell ≤ most_bytes
+  value : is_null cell ≡ false → is_value_in values cell ≡ true → byte_length cell ≤ most_bytes_in values
       → IsSlot values cell
 
 -- each cell is null or one of the values, not too long
@@ -75,7 +73,7 @@ whole_some w64 = lit< tt
 whole_some w128 = lit< tt
 
 -- A number that is a signed value of a width fits the width.
-signed-fits : (width : Width) (number : ℤ) → is_integer_in (signed width) number ≡ true
+signed-fits : (width : Width) (number : ℤ) → is_signed_of width number ≡ true
     → SFits width number
 signed-fits width (pos n) test =
     let top : ℕ = 2 ^ (8 * byte_len width - 1) - 1 in
@@ -111,7 +109,7 @@ module _ (width : Width) (cells : List Cell) (i : ℕ) (inside : i < length cell
 
   -- A number with a sign is read back from its cell's place.
   signed-back : (number : ℤ) → get_or cells i Null ≡ Num number
-      → is_integer_in (signed width) number ≡ true
+      → is_signed_of width number ≡ true
       → cast_signed width (number_from buffer (i * byte_len width) (byte_len width)) ≡ number
   signed-back number is test =
       has-signed buffer (i * byte_len width) width number (signed-fits width number test)
@@ -119,7 +117,7 @@ module _ (width : Width) (cells : List Cell) (i : ℕ) (inside : i < length cell
 
   -- A number without a sign is read back from its cell's place.
   unsigned-back : (number : ℤ) → get_or cells i Null ≡ Num number
-      → is_integer_in (unsigned width) number ≡ true
+      → is_unsigned_of width number ≡ true
       → pos (number_from buffer (i * byte_len width) (byte_len width)) ≡ number
   unsigned-back (pos n) is test =
       let top : ℕ = 2 ^ (8 * byte_len width) - 1 in
@@ -147,14 +145,22 @@ length-offsets from [] = refl
 length-offsets from (cell ∷ cells) =
     omega (arith, length-offsets (from + length (bytes_of_value cell)) cells)
 
--- the values together are below 2^31 bytes
-abbrev pub Few : List Cell → Type 0
-Few cells = length (flat_map bytes_of_value cells) < 2 ^ 31
+-- a number below half the range of a width is below the whole
+below_whole : (width : Width) (n : ℕ) → n < 2 ^ hbits width → n < 256 ^ byte_len width
+below_whole w8 n below = omega arith
+below_whole w16 n below = omega arith
+below_whole w32 n below = omega arith
+below_whole w64 n below = omega arith
+below_whole w128 n below = omega arith
 
-module _ (cells : List Cell) (few : Few cells) where
-  -- The bytes of the offsets, four for each.
+-- the values together are few enough for offsets of a width, which have a sign
+abbrev pub FitOffsets : Width → List Cell → Type 0
+FitOffsets width cells = length (flat_map bytes_of_value cells) < 2 ^ hbits width
+
+module _ (width : Width) (cells : List Cell) (few : FitOffsets width cells) where
+  -- The bytes of the offsets.
   abbrev ends : List ℕ
-  ends = flat_map (to_le_bytes w32) (offsets 0 cells)
+  ends = flat_map (to_le_bytes width) (offsets 0 cells)
 
   -- The bytes of all values, one behind the other.
   abbrev values_bytes : List ℕ
@@ -165,23 +171,25 @@ module _ (cells : List Cell) (few : Few cells) where
   begin i = begins bytes_of_value cells i
 
   -- an offset reads as where its value begins
-  pub offset-back : (i : ℕ) → i ≤ length cells → offset_of ends i ≡ pos (begin i)
+  pub offset-back : (i : ℕ) → i ≤ length cells → offset_of width ends i ≡ pos (begin i)
   offset-back i inside =
       let words : List ℕ = offsets 0 cells in
       let room : i < length words = omega (arith, length-offsets 0 cells) in
       let is : get_or words i 0 ≡ begin i = offset-is 0 cells i inside ∙ omega arith in
-      let small : begin i < 2 ^ 31 = omega (arith, begins-within bytes_of_value cells i) in
-      let even : begins (to_le_bytes w32) words i ≡ 4 * i =
-      begins-even (to_le_bytes w32) 4 words i (length-number w32) (omega arith) ∙ omega arith in
-      let P : ℕ → Type 0 = λ n. Has ends n (to_le_bytes w32 (get_or words i 0)) in
-      let Q : ℕ → Type 0 = λ n. Has ends (4 * i) (to_le_bytes w32 n) in
-      let there = subst Q is (subst P even (piece-there (to_le_bytes w32) words i 0 room)) in
-      ap (cast_signed w32) (has-number ends (4 * i) w32 (begin i) (omega arith) there)
-      ∙ to_z_pos w32 (begin i) small
+      let small : begin i < 2 ^ hbits width =
+      omega (arith, few, begins-within bytes_of_value cells i) in
+      let even : begins (to_le_bytes width) words i ≡ i * byte_len width =
+      begins-even (to_le_bytes width) (byte_len width) words i (length-number width) (omega arith) in
+      let P : ℕ → Type 0 = λ n. Has ends n (to_le_bytes width (get_or words i 0)) in
+      let Q : ℕ → Type 0 = λ n. Has ends (i * byte_len width) (to_le_bytes width n) in
+      let there = subst Q is (subst P even (piece-there (to_le_bytes width) words i 0 room)) in
+      ap (cast_signed width) (has-number ends (i * byte_len width) width (begin i)
+      (below_whole width (begin i) small) there)
+      ∙ to_z_pos width (begin i) small
 
   -- between two offsets the bytes of a value stand
   pub value-back : (i : ℕ) → i < length cells
-      → value_of ends values_bytes i ≡ bytes_of_value (get_or cells i Null)
+      → value_of width ends values_bytes i ≡ bytes_of_value (get_or cells i Null)
   value-back i inside =
       let cell : Cell = get_or cells i Null in
       let piece : List ℕ = bytes_of_value cell in
@@ -194,7 +202,7 @@ module _ (cells : List Cell) (few : Few cells) where
 
   -- No offset of a stretch is above the one behind it.
   all-rise : (k n : ℕ) → k + n ≤ length cells
-      → list_all (λ i. int_le (offset_of ends i) (offset_of ends (i + 1))) (range_with_len k n)
+      → list_all (λ i. int_le (offset_of width ends i) (offset_of width ends (i + 1))) (range_with_len k n)
       ≡ true
   all-rise k zero inside = refl
   all-rise k (suc n) inside =
@@ -203,14 +211,14 @@ module _ (cells : List Cell) (few : Few cells) where
       let rises : nat_le (begin k) (begin (k + 1)) ≡ true =
       le-leb (begin k) (begin (k + 1)) (omega
       (arith, begins-next bytes_of_value cells k Null (omega arith))) in
-      and_from (int_le (offset_of ends k) (offset_of ends (k + 1)))
-      (list_all (λ i. int_le (offset_of ends i) (offset_of ends (i + 1)))
+      and_from (int_le (offset_of width ends k) (offset_of width ends (k + 1)))
+      (list_all (λ i. int_le (offset_of width ends i) (offset_of width ends (i + 1)))
       (range_with_len (k + 1) n))
       (rw (low, high) rises)
       (all-rise (k + 1) n (omega arith))
 
   -- the offsets that were laid are lawful
-  pub offsets-lawful : are_offsets ends values_bytes (length cells) ≡ true
+  pub offsets-lawful : are_offsets width ends values_bytes (length cells) ≡ true
   offsets-lawful =
       let rows : ℕ = length cells in
       let first = offset-back 0 (omega arith) in
@@ -219,15 +227,47 @@ module _ (cells : List Cell) (few : Few cells) where
       let ending : nat_le (begin rows) (length values_bytes) ≡ true =
       le-leb (begin rows) (length values_bytes) (begins-within bytes_of_value cells rows) in
       let rising = all-rise 0 rows (omega arith) in
-      let low : int_le (pos 0) (offset_of ends 0) ≡ true = rw first positive in
-      let high : int_le (offset_of ends rows) (pos (length values_bytes)) ≡ true = rw last ending in
+      let low : int_le (pos 0) (offset_of width ends 0) ≡ true = rw first positive in
+      let high : int_le (offset_of width ends rows) (pos (length values_bytes)) ≡ true = rw last ending in
       let rise : Bool =
-      list_all (λ i. int_le (offset_of ends i) (offset_of ends (i + 1))) (range_with_len 0 rows) in
-      or_right (rows == 0) (int_le (pos 0) (offset_of ends 0) && rise && int_le
-      (offset_of ends rows) (pos (length values_bytes)))
-      (and_from (int_le (pos 0) (offset_of ends 0) && rise)
-      (int_le (offset_of ends rows) (pos (length values_bytes)))
-      (and_from (int_le (pos 0) (offset_of ends 0)) rise low rising) high)
+      list_all (λ i. int_le (offset_of width ends i) (offset_of width ends (i + 1))) (range_with_len 0 rows) in
+      or_right (rows == 0) (int_le (pos 0) (offset_of width ends 0) && rise && int_le
+      (offset_of width ends rows) (pos (length values_bytes)))
+      (and_from (int_le (pos 0) (offset_of width ends 0) && rise)
+      (int_le (offset_of width ends rows) (pos (length values_bytes)))
+      (and_from (int_le (pos 0) (offset_of width ends 0)) rise low rising) high)
+
+-- ---- values of equally many bytes
+
+-- a value of so many bytes has them
+pub length-strip : (bytes : ℕ) (cell : Cell) → length (strip_of bytes cell) ≡ bytes
+length-strip bytes cell =
+    let own : List ℕ = bytes_of_value cell in
+    let zeros : List ℕ = replicate bytes 0 in
+    let all : length (own ++ zeros) ≡ length own + length zeros = length-append own zeros in
+    let long : length zeros ≡ bytes = length-replicate bytes 0 in
+    length-take-le bytes (own ++ zeros) (omega arith)
+
+-- a value that has so many bytes is kept as it is
+strip-same : (width : ℕ) (bytes : List ℕ) → length bytes ≡ width
+    → strip_of width (Blob bytes) ≡ bytes
+strip-same width bytes same =
+    rw (take-append-le width bytes (replicate width 0) (omega arith))
+    (take_all width bytes (omega arith))
+
+-- the bytes of a value stand behind those of the values before it
+strip-back : (bytes : ℕ) (cells : List Cell) (i : ℕ) → i < length cells
+    → take bytes (drop (i * bytes) (flat_map (strip_of bytes) cells))
+    ≡ strip_of bytes (get_or cells i Null)
+strip-back bytes cells i inside =
+    let piece : List ℕ = strip_of bytes (get_or cells i Null) in
+    let buffer : List ℕ = flat_map (strip_of bytes) cells in
+    let even : begins (strip_of bytes) cells i ≡ i * bytes =
+    begins-even (strip_of bytes) bytes cells i (length-strip bytes) (omega arith) in
+    let P : ℕ → Type 0 = λ n. Has buffer n piece in
+    let there = subst P even (piece-there (strip_of bytes) cells i Null inside) in
+    ap (λ (n : ℕ). take n (drop (i * bytes) buffer)) (sym (length-strip bytes (get_or cells i Null)))
+    ∙ has-taken buffer (i * bytes) piece there
 
 -- ---- a column
 
@@ -249,38 +289,66 @@ null-length (Blob bytes) is = absurd (cc)
 
 -- What a slot may hold has at most as many bytes as a value may have.
 slot-short : (values : Values) (cell : Cell) → IsSlot values cell
-    → length (bytes_of_value cell) ≤ most_bytes
+    → length (bytes_of_value cell) ≤ most_bytes_in values
 slot-short values cell (null is) = omega (arith, length-value cell, null-length cell is)
 slot-short values cell (value some is short) = omega (arith, length-value cell, short)
 
--- the values of a column are few enough for their offsets
-values-short : (values : Values) (cells : List Cell) → AllSlots values cells
-    → length (flat_map bytes_of_value cells) ≤ most_bytes * length cells
+-- the values of a column have together at most the most bytes of each
+pub values-short : (values : Values) (cells : List Cell) → AllSlots values cells
+    → length (flat_map bytes_of_value cells) ≤ length cells * most_bytes_in values
 values-short values [] slots = omega arith
 values-short values (cell ∷ cells) slots =
     let first = slot-short values cell (slots 0 (omega arith)) in
     let rest = values-short values cells (λ i inside. slots (suc i) (omega arith)) in
     omega (arith, length-append (bytes_of_value cell) (flat_map bytes_of_value cells), first, rest)
 
+-- at most 2^15 values of the most bytes are few enough for the offsets between them
+few-between : (width : OffsetWidth) (count total : ℕ) → count ≤ 2 ^ 15
+    → total ≤ count * most_between width → total < 2 ^ hbits (offset_width width)
+few-between offset.Bits32 count total few short = omega arith
+few-between offset.Bits64 count total few short = omega arith
+
+-- texts and bytes are few enough for their offsets
+abbrev pub Few : Values → List Cell → Type 0
+Few (Signed width) cells = Unit {0}
+Few (Unsigned width) cells = Unit {0}
+Few Truths cells = Unit {0}
+Few (Texts width) cells = FitOffsets (offset_width width) cells
+Few (Blobs width) cells = FitOffsets (offset_width width) cells
+Few (Strips bytes) cells = Unit {0}
+
 -- the values of at most 2^15 cells are few enough for their offsets
 pub values-few : (values : Values) (cells : List Cell) → AllSlots values cells
-    → length cells ≤ 2 ^ 15 → Few cells
-values-few values cells slots few = omega (arith, values-short values cells slots)
+    → length cells ≤ 2 ^ 15 → Few values cells
+values-few (Signed width) cells slots few = tt
+values-few (Unsigned width) cells slots few = tt
+values-few Truths cells slots few = tt
+values-few (Texts width) cells slots few =
+    few-between width (length cells) (length (flat_map bytes_of_value cells)) few
+    (values-short (Texts width) cells slots)
+values-few (Blobs width) cells slots few =
+    few-between width (length cells) (length (flat_map bytes_of_value cells)) few
+    (values-short (Blobs width) cells slots)
+values-few (Strips bytes) cells slots few = tt
 
 -- the value in a slot
-slot-value : (values : Values) (cells : List Cell) (i : ℕ) (cell : Cell) → Few cells
+slot-value : (values : Values) (cells : List Cell) (i : ℕ) (cell : Cell) → Few values cells
     → i < length cells → get_or cells i Null ≡ cell → is_value_in values cell ≡ true
     → value_at values (data_buffers (layout_in values) cells) i ≡ cell
-slot-value (signed width) cells i (Num number) few inside is test =
-    ap Num (signed-back width cells i inside number is test)
-slot-value (unsigned width) cells i (Num number) few inside is test =
-    ap Num (unsigned-back width cells i inside number is test)
-slot-value truths cells i (Truth truth) few inside is test =
+slot-value (Signed width) cells i (Num number) few inside is test =
+    ap Num (signed-back (number_width width) cells i inside number is test)
+slot-value (Unsigned width) cells i (Num number) few inside is test =
+    ap Num (unsigned-back (number_width width) cells i inside number is test)
+slot-value Truths cells i (Truth truth) few inside is test =
     ap Truth (truth-back cells i inside ∙ ap truth_of is)
-slot-value texts cells i (Text text) few inside is test =
-    ap Text (value-back cells few i inside ∙ ap bytes_of_value is)
-slot-value blobs cells i (Blob bytes) few inside is test =
-    ap Blob (value-back cells few i inside ∙ ap bytes_of_value is)
+slot-value (Texts width) cells i (Text text) few inside is test =
+    ap Text (value-back (offset_width width) cells few i inside ∙ ap bytes_of_value is)
+slot-value (Blobs width) cells i (Blob bytes) few inside is test =
+    ap Blob (value-back (offset_width width) cells few i inside ∙ ap bytes_of_value is)
+slot-value (Strips width) cells i (Blob bytes) few inside is test =
+    let same : length bytes ≡ width =
+    eqb-true (length bytes) width (and_parts (length bytes == width) (are_bytes bytes) test).0 in
+    ap Blob (strip-back width cells i inside ∙ ap (strip_of width) is ∙ strip-same width bytes same)
 slot-value values cells i cell few inside is test = absurd (cc)
 
 -- A cell that is tested to be null is null.
@@ -292,7 +360,7 @@ null-is (Text text) is = absurd (cc)
 null-is (Blob bytes) is = absurd (cc)
 
 -- the cell in a slot
-cell-back : (values : Values) (cells : List Cell) (i : ℕ) → Few cells → i < length cells
+cell-back : (values : Values) (cells : List Cell) (i : ℕ) → Few values cells → i < length cells
     → IsSlot values (get_or cells i Null)
     → cell_at values (validity cells) (data_buffers (layout_in values) cells) i
     ≡ get_or cells i Null
@@ -306,7 +374,7 @@ cell-back values cells i few inside (value some is short) =
     ∙ slot-value values cells i (get_or cells i Null) few inside refl is
 
 -- The cells are read back.
-pub cells-back : (values : Values) (cells : List Cell) → Few cells → AllSlots values cells
+pub cells-back : (values : Values) (cells : List Cell) → Few values cells → AllSlots values cells
     → cells_of values (validity cells) (data_buffers (layout_in values) cells) (length cells)
     ≡ cells
 cells-back values cells few slots =
@@ -315,13 +383,14 @@ cells-back values cells few slots =
     (λ i inside. sym (cell-back values cells i few inside (slots i inside))))
 
 -- the offsets are lawful
-pub offsets-are : (values : Values) (cells : List Cell) → Few cells
+pub offsets-are : (values : Values) (cells : List Cell) → Few values cells
     → has_offsets values (data_buffers (layout_in values) cells) (length cells) ≡ true
-offsets-are (signed width) cells few = refl
-offsets-are (unsigned width) cells few = refl
-offsets-are truths cells few = refl
-offsets-are texts cells few = offsets-lawful cells few
-offsets-are blobs cells few = offsets-lawful cells few
+offsets-are (Signed width) cells few = refl
+offsets-are (Unsigned width) cells few = refl
+offsets-are Truths cells few = refl
+offsets-are (Texts width) cells few = offsets-lawful (offset_width width) cells few
+offsets-are (Blobs width) cells few = offsets-lawful (offset_width width) cells few
+offsets-are (Strips bytes) cells few = refl
 
 -- What a slot may hold is in UTF-8 where it is a text.
 slot-text : (values : Values) (cell : Cell) → IsSlot values cell → is_text cell ≡ true

@@ -6,13 +6,13 @@ use Rattle.std.proofs.lemmas.List.{length-map, take_at, drop_at, drop_more, drop
 use Rattle.std.proofs.lemmas.List.FromFn.{fill_by_all}
 use Rattle.std.specs.List.{All, enumerate_from, list_all, range_with_len}
 use Rattle.std.specs.Ordering.{int_eq}
-use Rattle.cell_model.specs.Kinds.{Values, values_of}
+use Rattle.cell_model.specs.Kinds.{values_of, most_bytes_in}
 use Rattle.cell_model.specs.Rows.{Fits, cell_fault, first_fault}
-use Rattle.cell_model.specs.Values.{is_null, is_value_of, byte_length, most_bytes}
+use Rattle.cell_model.specs.Values.{is_null, is_value_in, is_value_of, byte_length}
 use Rattle.cell_model.specs.declared.cell.Cell.{Cell}
-use Rattle.cell_model.specs.declared.cell.Cell.TheVariants.{Null, Num, Truth, Text, Blob}
+use Rattle.cell_model.specs.declared.cell.Cell.TheVariants.{Null}
 use Rattle.cell_model.specs.declared.column.Column.{Column}
-use Rattle.cell_model.specs.declared.kind.Kind.{Kind}
+use Rattle.cell_model.specs.declared.values.Values.{Values}
 use Rattle.cell_model.specs.declared.row.RowFault.{RowFault}
 use Rattle.cell_model.specs.declared.row.RowFault.TheVariants.{Arity, NullAt, RangeAt, LongAt}
 use Rattle.arrow_spec.specs.Arrays.{layout_in, layout_of, column_buffers, data_buffers, validity, null_count}
@@ -25,7 +25,7 @@ use Rattle.stream_spec.specs.Metadata.{BatchTable}
 use Rattle.stream_laws.proofs.Pieces.{Has}
 use Rattle.stream_laws.proofs.BatchTables.{buffer_of, node_of}
 use Rattle.stream_laws.proofs.Buffers.{HasBuffers, buffers-split, buffers-there, column-read, length-data, length-places, places, places-split, same-count}
-use Rattle.stream_laws.proofs.Cells.{AllSlots, IsSlot, null, value, is_value_in}
+use Rattle.stream_laws.proofs.Cells.{AllSlots, IsSlot, null, value}
 
 -- ---- rows that fit
 
@@ -35,18 +35,10 @@ no-fault : (first rest : Option RowFault) → (if is_none first then rest else f
 no-fault None rest is = (refl, is)
 no-fault (Some fault) rest is = absurd (cc)
 
--- a kind's values are those of its sort
-value-in : (kind : Kind) (cell : Cell) → is_value_of kind cell ≡ is_value_in (values_of kind) cell
-value-in kind Null = refl
-value-in kind (Num number) = refl
-value-in kind (Truth truth) = refl
-value-in kind (Text text) = refl
-value-in kind (Blob bytes) = refl
-
 -- A cell in which no fault is found is one that a slot may hold.
 slot-by : (values : Values) (cell : Cell) (empty nullable right long : Bool) (at : ℕ)
     → is_null cell ≡ empty → is_value_in values cell ≡ right
-    → nat_lt most_bytes (byte_length cell) ≡ long
+    → nat_lt (most_bytes_in values) (byte_length cell) ≡ long
     → (if empty then (if nullable then None else Some (NullAt at)) else if not right then Some
     (RangeAt at) else if long then Some (LongAt at) else None) ≡ None
     → IsSlot values cell
@@ -54,7 +46,7 @@ slot-by values cell true nullable right long at is fits short none = null is
 slot-by values cell false nullable false long at is fits short none = absurd (cc)
 slot-by values cell false nullable true true at is fits short none = absurd (cc)
 slot-by values cell false nullable true false at is fits short none =
-    value is fits (ltb-false most_bytes (byte_length cell) short)
+    value is fits (ltb-false (most_bytes_in values) (byte_length cell) short)
 
 -- the slots of a row, from a column on
 abbrev pub SlotsFrom : ℕ → List Column → List Cell → Type 0
@@ -73,8 +65,9 @@ slots-from k at (column ∷ columns) row long none =
     let both = no-fault (cell_fault at column cell)
     (first_fault (at + 1) columns (drop (k + 1) row)) (subst P parts none) in (
       slot-by (values_of column.kind) cell (is_null cell) column.nullable
-          (is_value_of column.kind cell) (nat_lt most_bytes (byte_length cell)) at
-          refl (sym (value-in column.kind cell)) refl both.0,
+          (is_value_of column.kind cell)
+          (nat_lt (most_bytes_in (values_of column.kind)) (byte_length cell)) at
+          refl refl refl both.0,
       slots-from (k + 1) (at + 1) columns row (omega arith) both.1,
     )
 

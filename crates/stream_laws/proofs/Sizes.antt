@@ -4,17 +4,18 @@ use Rattle.std.proofs.lemmas.List.{length-replicate, length-map}
 use Rattle.std.proofs.lemmas.List.Elements.{All-head, All-tail}
 use Rattle.std.specs.Int.{w32, byte_len, to_le_bytes}
 use Rattle.std.specs.List.{All}
-use Rattle.cell_model.specs.Kinds.{Values, signed, unsigned, truths, texts, blobs, values_of}
 use Rattle.cell_model.specs.Schemas.{IsName}
-use Rattle.cell_model.specs.Values.{most_bytes}
+use Rattle.cell_model.specs.Widths.{most_bytes}
 use Rattle.cell_model.specs.declared.column.Column.{Column}
 use Rattle.arrow_spec.specs.Flatbuffers.{Laid, Object, Field, number, reference, absent, aligned, length_place, gap, with_fields, vtable_of, table, vector, string, references, vector_of_tables}
-use Rattle.arrow_spec.specs.Metadata.{type_table_in, field_table, schema_table, schema, flatbuffer_of}
+use Rattle.arrow_spec.specs.Metadata.{type_of, table_of_type, field_table, schema_table, schema, flatbuffer_of}
+use Rattle.arrow_spec.specs.declared.types.ArrowType.{ArrowType}
+use Rattle.arrow_spec.specs.declared.types.ArrowType.TheVariants.{SignedInt, UnsignedInt, FixedSizeBinary, Date, Plain}
 use Rattle.stream_laws.proofs.Pieces.{length-number}
 use Rattle.stream_laws.proofs.Fields.{are_apart, numbered, length-numbered, first-of}
 use Rattle.stream_laws.proofs.Tables.{IsTable, length-vtable, references-apart}
 use Rattle.stream_laws.proofs.Messages.{message_fields}
-use Rattle.stream_laws.proofs.Schemas.{column_fields, int_fields, schema_fields}
+use Rattle.stream_laws.proofs.Schemas.{column_fields, int_fields, fixed_fields, date_fields, schema_fields}
 
 -- wherever it is laid, the object adds at most so many bytes
 abbrev AddsAtMost : Object → ℕ → Type 0
@@ -120,16 +121,18 @@ tables-short most tables leads end =
     omega arith
 
 -- The table of a type adds at most 31 bytes.
-type-short : (values : Values) → AddsAtMost (type_table_in values) 31
-type-short (signed width) end =
-    table-short 9 0 (int_fields (8 * byte_len width) 1) (record { apart = refl; fit = refl }) tt end
-type-short (unsigned width) end =
-    table-short 9 0 (int_fields (8 * byte_len width) 0) (record { apart = refl; fit = refl }) tt end
-type-short truths end =
-    let short = table-short 4 0 [] (record { apart = refl; fit = refl }) tt end in omega arith
-type-short texts end =
-    let short = table-short 4 0 [] (record { apart = refl; fit = refl }) tt end in omega arith
-type-short blobs end =
+type-short : (type' : ArrowType) → AddsAtMost (table_of_type type') 31
+type-short (SignedInt bits) end =
+    table-short 9 0 (int_fields bits 1) (record { apart = refl; fit = refl }) tt end
+type-short (UnsignedInt bits) end =
+    table-short 9 0 (int_fields bits 0) (record { apart = refl; fit = refl }) tt end
+type-short (FixedSizeBinary width) end =
+    let short = table-short 8 0 (fixed_fields width) (record { apart = refl; fit = refl }) tt end in
+    omega arith
+type-short (Date unit) end =
+    let short = table-short 6 0 (date_fields unit) (record { apart = refl; fit = refl }) tt end in
+    omega arith
+type-short (Plain id) end =
     let short = table-short 4 0 [] (record { apart = refl; fit = refl }) tt end in omega arith
 
 -- how many bytes a column's field adds at most, with a name of as many as there may be
@@ -151,7 +154,7 @@ field-short column short end =
         (
           31,
           (
-            type-short (values_of column.kind),
+            type-short (type_of column.kind),
             omega arith,
             (11, (none, omega arith, tt)),
           ),

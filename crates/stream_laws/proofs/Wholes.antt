@@ -6,9 +6,11 @@ use Rattle.std.specs.List.{All, list_all, range_with_len}
 use Rattle.std.specs.Ordering.{int_eq}
 use Rattle.std.proofs.lemmas.Bool.{and_parts}
 use Rattle.std.proofs.lemmas.List.Elements.{All-nil, All-cons, All-append}
-use Rattle.cell_model.specs.Kinds.{Values, signed, unsigned, truths, texts, blobs, values_of}
+use Rattle.cell_model.specs.Kinds.{values_of}
 use Rattle.cell_model.specs.declared.cell.Cell.{Cell}
 use Rattle.cell_model.specs.declared.column.Column.{Column}
+use Rattle.cell_model.specs.declared.values.Values.{Values}
+use Rattle.cell_model.specs.declared.values.Values.TheVariants.{Signed, Unsigned, Truths, Texts, Blobs, Strips}
 use Rattle.stream_spec.specs.Checks.{◌>>=◌, rule}
 use Rattle.stream_spec.specs.Columns.{are_buffers, bitmap_length, buffer_count, bytes_of, cells_of, column_of, columns_of, data_count, data_needs, has_offsets, is_buffer, is_text, is_validity, lies_in, null_count_of, row_at}
 use Rattle.stream_spec.specs.declared.fault.Cause.{Cause}
@@ -27,11 +29,12 @@ search_is_long_enough bytes schema more is enough =
 
 -- Behind its validity a column has as many buffers as needs.
 pub needs_are_counted : NeedsAreCounted
-needs_are_counted (signed width) rows = refl
-needs_are_counted (unsigned width) rows = refl
-needs_are_counted truths rows = refl
-needs_are_counted texts rows = refl
-needs_are_counted blobs rows = refl
+needs_are_counted (Signed width) rows = refl
+needs_are_counted (Unsigned width) rows = refl
+needs_are_counted Truths rows = refl
+needs_are_counted (Texts width) rows = refl
+needs_are_counted (Blobs width) rows = refl
+needs_are_counted (Strips bytes) rows = refl
 
 -- ---- the parts of what was read
 

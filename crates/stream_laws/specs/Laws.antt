@@ -1,20 +1,25 @@
 -- What the canonical bytes of a schema, a batch and a stream read as.
-use Rattle.std.specs.Prelude.{◌≡◌, ℕ, ◌^◌, ◌<◌, ◌≤◌, List, ◌++◌, length, drop, true, Some, Ok}
+use Rattle.std.specs.Prelude.{◌≡◌, ℕ, ◌^◌, ◌<◌, ◌≤◌, List, [], ◌∷◌, ◌++◌, length, drop, map}
+use Rattle.std.specs.Prelude.{replicate, true, false, Some, Ok}
 use Rattle.std.specs.List.{All}
-use Rattle.cell_model.specs.Kinds.{Values}
+use Rattle.cell_model.specs.Kinds.{kinds, values_of}
 use Rattle.cell_model.specs.Rows.{Fits}
 use Rattle.cell_model.specs.Schemas.{AreNamed, IsSchema}
 use Rattle.cell_model.specs.declared.cell.Cell.{Cell}
 use Rattle.cell_model.specs.declared.column.Column.{Column}
 use Rattle.cell_model.specs.declared.kind.Kind.TheVariants as kind
+use Rattle.cell_model.specs.declared.values.Values.{Values}
 use Rattle.arrow_spec.specs.Examples.{key_and, nine_rows}
 use Rattle.arrow_spec.specs.Streams.{schema_message, batch_message, stream_of}
-use Rattle.stream_spec.specs.Columns.{data_count, data_needs, lies_in, rows_of}
+use Rattle.stream_spec.specs.Columns.{data_count, data_needs, has_offsets, lies_in, rows_of}
 use Rattle.stream_spec.specs.Metadata.{BatchTable}
+use Rattle.stream_spec.specs.Samples.{at, later_fault_with}
 use Rattle.stream_spec.specs.Streams.{Reads, SchemaRead, batches_from, first_schema, next_batch}
 use Rattle.stream_spec.specs.Streams.{reading_of}
+use Rattle.stream_spec.specs.declared.fault.Cause.TheVariants as cause
 
--- Columns that a stream can tell: there is one, there are at most 2^14, and each name is a text.
+-- Columns that a stream can tell: there is one, there are at most 2^14, each name is a text, and
+-- each kind is one that there is.
 -- The metadata of 2^15 columns with the longest names would have 2^31 bytes and more, which no size
 -- word tells.
 pub record AreTold (columns : List Column) : Type 0 where
@@ -80,7 +85,8 @@ SearchIsLongEnough = (bytes : List ℕ) (schema : SchemaRead) (more : ℕ)
 
 -- A batch that is read has a cell of each column in each row: none was left out for want of a node
 -- or of a buffer. And each buffer that it names lies in its body: none was left unseen.
-pub record IsWhole (columns : List Column) (batch : BatchTable) (body : List ℕ) (rows : List (List Cell)) : Type 0 where
+pub record IsWhole (columns : List Column) (batch : BatchTable) (body : List ℕ)
+    (rows : List (List Cell)) : Type 0 where
   pub cells : All (λ row. length row ≡ length columns) rows
   pub buffers : All (λ buffer. lies_in body buffer ≡ true) batch.buffers
 
@@ -92,3 +98,24 @@ BatchesAreWhole =
 -- Behind its validity a column has as many buffers as needs, so none of the two is left over.
 abbrev pub NeedsAreCounted : Type 0
 NeedsAreCounted = (values : Values) (rows : ℕ) → length (data_needs values rows) ≡ data_count values
+
+-- What nine slots of each kind need: numbers and strips their bytes, truth values a bitmap, and
+-- values of any length ten offsets and as many bytes as these tell.
+abbrev pub NineSlotsNeed : Type 0
+NineSlotsNeed = map (λ each. data_needs (values_of each) 9) (kinds ++ kind.Fixed 3 ∷ [])
+    ≡ (9 ∷ []) ∷ (18 ∷ []) ∷ (36 ∷ []) ∷ (72 ∷ []) ∷ (9 ∷ []) ∷ (18 ∷ []) ∷ (36 ∷ [])
+    ∷ (72 ∷ []) ∷ (2 ∷ []) ∷ (40 ∷ 0 ∷ []) ∷ (40 ∷ 0 ∷ []) ∷ (80 ∷ 0 ∷ []) ∷ (80 ∷ 0 ∷ [])
+    ∷ (36 ∷ []) ∷ (27 ∷ []) ∷ []
+
+-- As offsets of either width these bytes are 1 and 0, which fall: no slot of a kind with offsets
+-- lies between them.
+abbrev pub FallingOffsetsAreFound : Type 0
+FallingOffsetsAreFound =
+    map
+    (λ each. has_offsets (values_of each) ((1 ∷ replicate 15 0) ∷ (7 ∷ []) ∷ []) 1)
+    (kinds ++ kind.Fixed 3 ∷ [])
+    ≡ replicate 9 true ++ replicate 4 false ++ true ∷ true ∷ []
+
+-- A field of an integer without a reference to its type's table has no bits, and so no kind.
+abbrev pub AbsentTypeIsFound : Type 0
+AbsentTypeIsFound = later_fault_with ((106, 0x00) ∷ []) ≡ at 0 cause.Kind

@@ -5,6 +5,7 @@
 
 ghost use Rattle.stream_laws.specs.Laws.{BatchIsRead, NineRowsAreTold, OneReading, SchemaIsRead};
 ghost use Rattle.stream_laws.specs.Laws.{BatchesAreWhole, NeedsAreCounted, SearchIsLongEnough};
+ghost use Rattle.stream_laws.specs.Laws.{AbsentTypeIsFound, FallingOffsetsAreFound, NineSlotsNeed};
 ghost use Rattle.stream_laws.specs.Laws.{StreamEnds, StreamIsRead, TablesAreTold};
 
 /// A schema's message, whatever follows it, reads as its columns.
@@ -52,4 +53,19 @@ pub fn the_search_for_batches_is_long_enough()
 pub fn a_batch_that_is_read_is_whole()
     ensures whole { BatchesAreWhole }
     ensures needs { NeedsAreCounted }
+{}
+
+/// How many bytes nine slots of each kind need behind their validity.
+pub fn nine_slots_need_their_bytes()
+    ensures { NineSlotsNeed }
+{}
+
+/// Offsets that fall are lawful for no kind that has offsets.
+pub fn falling_offsets_are_found()
+    ensures { FallingOffsetsAreFound }
+{}
+
+/// A field of an integer without a table of its type is none that is read.
+pub fn an_absent_type_is_found()
+    ensures { AbsentTypeIsFound }
 {}

@@ -7,8 +7,9 @@ use Rattle.std.specs.List.{list_all}
 use Rattle.std.specs.Ordering.{int_eq}
 use Rattle.std.proofs.lemmas.List.{length-replicate}
 use Rattle.std.proofs.lemmas.Bool.{le-leb, ltb-true, true≢false, not-true, not-false}
-use Rattle.cell_model.specs.Kinds.{Values, values_of}
+use Rattle.cell_model.specs.Kinds.{values_of}
 use Rattle.cell_model.specs.declared.column.Column.{Column}
+use Rattle.cell_model.specs.declared.values.Values.{Values}
 use Rattle.arrow_spec.specs.Streams.{continuation}
 use Rattle.flat_read.specs.Reading.{number_from}
 use Rattle.flat_read.specs.declared.FlatFault.{FlatFault}

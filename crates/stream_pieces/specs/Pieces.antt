@@ -137,8 +137,8 @@ fault_of stand.Going = None
 fault_of stand.Ended = None
 fault_of (stand.Stopped fault) = Some fault
 
--- the fault where the stream ends at a reader: a message that has begun is short, and so is a stream
--- without a schema
+-- the fault where the stream ends at a reader: a message that has begun is short, and so is a
+-- stream without a schema
 abbrev pub end_fault : Stand → Option Known → ℕ → List ℕ → Option StreamFault
 end_fault stand.Going None place begun = Some (fault_at place cause.Short)
 end_fault stand.Going (Some known) place [] = None
@@ -150,9 +150,9 @@ end_fault (stand.Stopped fault) known place begun = Some fault
 abbrev pub rows_of : List (List (List Cell)) → List (List Cell)
 rows_of batches = flat_map (λ rows. rows) batches
 
--- A piece was read: of the rows of the batches that it made whole this is so, and behind them stands
--- what is still read, whatever comes; and the fault is told, if it is decided. The bytes that are
--- kept are some of those that came.
+-- A piece was read: of the rows of the batches that it made whole this is so, and behind them
+-- stands what is still read, whatever comes; and the fault is told, if it is decided. The bytes that
+-- are kept are some of those that came.
 pub record FeedsTo (Took : List (List Cell) → Type 0) (old new : Standing) (piece : List ℕ)
     (fault : Option StreamFault) : Type 0 where
   pub batches : List (List (List Cell))
@@ -173,15 +173,15 @@ pub record IsReadingOf (reading : Reading) (schema : Option (List Column)) (rows
   pub rows_are : rows ≡ rows_of reading.batches
   pub fault_is : fault ≡ reading.fault
 
--- Behind the bytes that were fed stands this reader: they read as batches of these rows, and then as
--- what is still read, whatever comes.
+-- Behind the bytes that were fed stands this reader: they read as batches of these rows, and then
+-- as what is still read, whatever comes.
 pub record ReadSoFar (fed : List ℕ) (reader : Standing) (rows : List (List Cell)) : Type 0 where
   pub batches : List (List (List Cell))
   pub rows_are : rows ≡ rows_of batches
   pub goes_on : (more : List ℕ) → reading_of (fed ++ more) ≡ behind batches (still_read reader more)
   pub counted : reader.place + length reader.begun ≤ length fed
 
--- Whatever comes behind these bytes, they read as they do: the end word has come, or a fault that no
--- bytes mend.
+-- Whatever comes behind these bytes, they read as they do: the end word has come, or a fault that
+-- no bytes mend.
 abbrev pub IsOver : List ℕ → Type 0
 IsOver bytes = (more : List ℕ) → reading_of (bytes ++ more) ≡ reading_of bytes

@@ -11,7 +11,8 @@ ghost use Rattle.stream_pieces.specs.Laws.{EarlyEndGoesOn, EndGoesOn, EndIsTold,
 ghost use Rattle.stream_pieces.specs.Laws.{DoneIsOver, GoingIsOpen, SchemaIsFirst, SchemaIsKept};
 ghost use Rattle.stream_pieces.specs.Laws.{FaultGoesOn, LongIsDecided, MessageGoesOn, MessageStays};
 ghost use Rattle.stream_pieces.specs.Laws.{AllIsReadSoFar, APieceIsReadSoFar, NoSchemaGoesOn};
-ghost use Rattle.stream_pieces.specs.Laws.{NothingIsReadSoFar, OpeningReadsAll, SchemaGoesOn, SchemaStays, ShortIsOpen};
+ghost use Rattle.stream_pieces.specs.Laws.{NothingIsReadSoFar, OpeningReadsAll, SchemaGoesOn};
+ghost use Rattle.stream_pieces.specs.Laws.{SchemaStays, ShortIsOpen};
 
 pub use stand::Stand;
 

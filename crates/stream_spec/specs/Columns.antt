@@ -4,14 +4,18 @@
 use Rattle.std.specs.Prelude.{ℕ, ◌+◌, ◌-◌, ◌*◌, ◌/◌, ◌%◌, Bool, true, ◌&&◌, ◌||◌, not, ◌==◌, nat_le}
 use Rattle.std.specs.Prelude.{int_le, ◌+ℤ◌, List, [], ◌∷◌, length, map, take, drop, ℤ, pos}
 use Rattle.std.specs.Prelude.{unsigned_abs, count_by, slice_index, Result, Ok, if◌then◌else◌}
-use Rattle.std.specs.Int.{Width, w32, bit_at, byte_len, cast_signed}
+use Rattle.std.specs.Int.{Width, bit_at, byte_len, cast_signed}
 use Rattle.std.specs.List.{list_all, range_with_len, slice_index_or}
 use Rattle.std.specs.Ordering.{int_eq}
 use Rattle.std.specs.Str.{is_utf8}
-use Rattle.cell_model.specs.Kinds.{Values, signed, unsigned, truths, texts, blobs, values_of}
+use Rattle.cell_model.specs.Kinds.{values_of}
+use Rattle.cell_model.specs.Widths.{number_width, offset_width}
 use Rattle.cell_model.specs.declared.cell.Cell.{Cell}
 use Rattle.cell_model.specs.declared.cell.Cell.TheVariants.{Null, Num, Truth, Text, Blob}
 use Rattle.cell_model.specs.declared.column.Column.{Column}
+use Rattle.cell_model.specs.declared.values.Values.{Values}
+use Rattle.cell_model.specs.declared.values.Values.TheVariants.{Signed, Unsigned, Truths}
+use Rattle.cell_model.specs.declared.values.Values.TheVariants.{Texts, Blobs, Strips}
 use Rattle.flat_read.specs.Reading.{number_from}
 use Rattle.stream_spec.specs.Checks.{◌>>=◌, rule}
 use Rattle.stream_spec.specs.declared.fault.Cause.{Cause}
@@ -41,20 +45,22 @@ bitmap_length bits = (bits + 7) / 8
 
 -- how many buffers stand behind the validity
 abbrev pub data_count : Values → ℕ
-data_count (signed width) = 1
-data_count (unsigned width) = 1
-data_count truths = 1
-data_count texts = 2
-data_count blobs = 2
+data_count (Signed width) = 1
+data_count (Unsigned width) = 1
+data_count Truths = 1
+data_count (Texts width) = 2
+data_count (Blobs width) = 2
+data_count (Strips bytes) = 1
 
 -- how many bytes each of these needs for so many rows; values of any length are told by their
 -- offsets
 abbrev pub data_needs : Values → ℕ → List ℕ
-data_needs (signed width) rows = rows * byte_len width ∷ []
-data_needs (unsigned width) rows = rows * byte_len width ∷ []
-data_needs truths rows = bitmap_length rows ∷ []
-data_needs texts rows = 4 * (rows + 1) ∷ 0 ∷ []
-data_needs blobs rows = 4 * (rows + 1) ∷ 0 ∷ []
+data_needs (Signed width) rows = rows * byte_len (number_width width) ∷ []
+data_needs (Unsigned width) rows = rows * byte_len (number_width width) ∷ []
+data_needs Truths rows = bitmap_length rows ∷ []
+data_needs (Texts width) rows = (rows + 1) * byte_len (offset_width width) ∷ 0 ∷ []
+data_needs (Blobs width) rows = (rows + 1) * byte_len (offset_width width) ∷ 0 ∷ []
+data_needs (Strips bytes) rows = rows * bytes ∷ []
 
 -- The buffer lies in the body and is long enough; for a batch without rows any length will do.
 abbrev pub is_buffer : List ℕ → ℕ → ℕ → BufferPlace → Bool
@@ -86,47 +92,51 @@ null_count_of validity rows = count_by (λ i. not (is_valid validity i)) (range_
 abbrev pub bits_from : List ℕ → Width → ℕ → ℕ
 bits_from buffers width i = number_from buffers (i * byte_len width) (byte_len width)
 
--- an offset, a signed number of 32 bits
-abbrev pub offset_of : List ℕ → ℕ → ℤ
-offset_of offsets i = cast_signed w32 (number_from offsets (4 * i) 4)
+-- an offset, a signed number of a width
+abbrev pub offset_of : Width → List ℕ → ℕ → ℤ
+offset_of width offsets i = cast_signed width (bits_from offsets width i)
 
 -- The value between a slot's offset and the next (Arrow columnar format, "Variable-size Binary
 -- Layout").
-abbrev pub value_of : List ℕ → List ℕ → ℕ → List ℕ
-value_of offsets values i =
-    take (unsigned_abs (offset_of offsets (i + 1)) - unsigned_abs (offset_of offsets i))
-    (drop (unsigned_abs (offset_of offsets i)) values)
+abbrev pub value_of : Width → List ℕ → List ℕ → ℕ → List ℕ
+value_of width offsets values i =
+    take (unsigned_abs (offset_of width offsets (i + 1)) - unsigned_abs (offset_of width offsets i))
+    (drop (unsigned_abs (offset_of width offsets i)) values)
 
 -- No offset is negative, none falls, and the last does not pass the values; for no rows none is
 -- looked at.
-abbrev pub are_offsets : List ℕ → List ℕ → ℕ → Bool
-are_offsets offsets values rows =
+abbrev pub are_offsets : Width → List ℕ → List ℕ → ℕ → Bool
+are_offsets width offsets values rows =
     rows == 0
-    || (int_le (pos 0) (offset_of offsets 0)
-    && list_all (λ i. int_le (offset_of offsets i) (offset_of offsets (i + 1)))
+    || (int_le (pos 0) (offset_of width offsets 0)
+    && list_all (λ i. int_le (offset_of width offsets i) (offset_of width offsets (i + 1)))
     (range_with_len 0 rows)
-    && int_le (offset_of offsets rows) (pos (length values)))
+    && int_le (offset_of width offsets rows) (pos (length values)))
 
 -- the offsets are lawful, where the values have any length
 abbrev pub has_offsets : Values → List (List ℕ) → ℕ → Bool
-has_offsets (signed width) buffers rows = true
-has_offsets (unsigned width) buffers rows = true
-has_offsets truths buffers rows = true
-has_offsets texts buffers rows = are_offsets (slice_index_or buffers 0 [])
-    (slice_index_or buffers 1 []) rows
-has_offsets blobs buffers rows = are_offsets (slice_index_or buffers 0 [])
-    (slice_index_or buffers 1 []) rows
+has_offsets (Signed width) buffers rows = true
+has_offsets (Unsigned width) buffers rows = true
+has_offsets Truths buffers rows = true
+has_offsets (Texts width) buffers rows = are_offsets (offset_width width)
+    (slice_index_or buffers 0 []) (slice_index_or buffers 1 []) rows
+has_offsets (Blobs width) buffers rows = are_offsets (offset_width width)
+    (slice_index_or buffers 0 []) (slice_index_or buffers 1 []) rows
+has_offsets (Strips bytes) buffers rows = true
 
 -- the value in a slot
 abbrev pub value_at : Values → List (List ℕ) → ℕ → Cell
-value_at (signed width) buffers i = Num
-    (cast_signed width (bits_from (slice_index_or buffers 0 []) width i))
-value_at (unsigned width) buffers i = Num (pos (bits_from (slice_index_or buffers 0 []) width i))
-value_at truths buffers i = Truth (bit_of (slice_index_or buffers 0 []) i)
-value_at texts buffers i = Text
-    (value_of (slice_index_or buffers 0 []) (slice_index_or buffers 1 []) i)
-value_at blobs buffers i = Blob
-    (value_of (slice_index_or buffers 0 []) (slice_index_or buffers 1 []) i)
+value_at (Signed width) buffers i = Num (cast_signed (number_width width)
+    (bits_from (slice_index_or buffers 0 []) (number_width width) i))
+value_at (Unsigned width) buffers i = Num
+    (pos (bits_from (slice_index_or buffers 0 []) (number_width width) i))
+value_at Truths buffers i = Truth (bit_of (slice_index_or buffers 0 []) i)
+value_at (Texts width) buffers i = Text
+    (value_of (offset_width width) (slice_index_or buffers 0 []) (slice_index_or buffers 1 []) i)
+value_at (Blobs width) buffers i = Blob
+    (value_of (offset_width width) (slice_index_or buffers 0 []) (slice_index_or buffers 1 []) i)
+value_at (Strips bytes) buffers i = Blob
+    (take bytes (drop (i * bytes) (slice_index_or buffers 0 [])))
 
 abbrev pub cell_at : Values → List ℕ → List (List ℕ) → ℕ → Cell
 cell_at values validity buffers i = if is_valid validity i then value_at values buffers i else Null

@@ -2,17 +2,21 @@
 -- root, and a field that is absent has its default. Field numbers and the numbers of types are
 -- those of the public schemas Message.fbs and Schema.fbs; how a table, a vtable, a vector and a
 -- string are read is of the FlatBuffers internals.
-use Rattle.std.specs.Prelude.{ℕ, ◌+◌, ◌*◌, ◌^◌, Bool, true, false, ◌&&◌, ◌||◌, not, ◌==◌, nat_lt}
-use Rattle.std.specs.Prelude.{List, [], map, find, ℤ, if◌then◌else◌, Option, None, Some, is_some}
-use Rattle.std.specs.Prelude.{Result, Ok}
-use Rattle.std.specs.Int.{w64, byte_len, cast_signed}
+use Rattle.std.specs.Prelude.{ℕ, ◌+◌, ◌*◌, ◌^◌, Bool, false, ◌||◌, not, ◌==◌, nat_lt}
+use Rattle.std.specs.Prelude.{List, [], ◌∷◌, map, find, ℤ, if◌then◌else◌, Option, None, Some}
+use Rattle.std.specs.Prelude.{is_some, Result, Ok}
+use Rattle.std.specs.Int.{w64, cast_signed}
 use Rattle.std.specs.List.{range_with_len}
 use Rattle.std.specs.Str.{is_utf8}
-use Rattle.cell_model.specs.Kinds.{Values, signed, unsigned, truths, texts, blobs, kinds}
-use Rattle.cell_model.specs.Kinds.{values_of}
+use Rattle.cell_model.specs.Kinds.{kinds}
+use Rattle.cell_model.specs.Widths.{is_byte_width}
 use Rattle.cell_model.specs.declared.column.Column.{Column}
 use Rattle.cell_model.specs.declared.kind.Kind.{Kind}
-use Rattle.arrow_spec.specs.Metadata.{type_number}
+use Rattle.cell_model.specs.declared.kind.Kind.TheVariants.{Fixed}
+use Rattle.arrow_spec.specs.Metadata.{type_of}
+use Rattle.arrow_spec.specs.declared.types.ArrowType.{ArrowType}
+use Rattle.arrow_spec.specs.declared.types.ArrowType.TheVariants.{SignedInt, UnsignedInt, Date}
+use Rattle.arrow_spec.specs.declared.types.ArrowType.TheVariants.{FixedSizeBinary, Plain}
 use Rattle.flat_read.specs.Reading.{field_at, number_at, number_from, target_at, text_at, vector_at}
 use Rattle.flat_read.specs.declared.FlatFault.{FlatFault}
 use Rattle.stream_spec.specs.Checks.{◌>>=◌, each_of, fault_as, or_fault, rule}
@@ -23,7 +27,6 @@ use Rattle.stream_spec.specs.declared.message.FieldNode.{FieldNode}
 use Rattle.stream_spec.specs.declared.message.Head.{Head}
 use Rattle.stream_spec.specs.declared.message.HeadKind.{HeadKind}
 use Rattle.stream_spec.specs.declared.message.HeadKind.TheVariants as head
-use Rattle.stream_spec.specs.declared.message.IntTable.{IntTable}
 use Rattle.stream_spec.specs.declared.message.MessageTable.{MessageTable}
 use Rattle.stream_spec.specs.declared.message.SchemaTable.{SchemaTable}
 use Rattle.stream_spec.specs.declared.fault.MetaFault.TheVariants as fault
@@ -118,69 +121,86 @@ head_of bytes = do
 -- ---- a schema
 
 -- A Field table: name (a string), nullable (a byte), type_type (8 bits), type and dictionary
--- (references), children (a vector of tables); and the Int table of its type.
+-- (references), children (a vector of tables); and what the table of its type says.
 pub record FieldTable : Type 0 where
   pub name : List ℕ
   pub nullable : Bool
-  pub type_type : ℕ
-  pub type' : Option ℕ
+  pub type_place : Option ℕ
   pub dictionary : Bool
   pub children : ℕ
-  pub int : IntTable
+  pub type' : ArrowType
 
 -- an Int table: bitWidth (32 bits), is_signed (a byte); an absent table says 0 and false
-abbrev pub int_table_of : List ℕ → Option ℕ → Result IntTable FlatFault
-int_table_of bytes None = Ok (record { bits = 0; is_signed = false })
-int_table_of bytes (Some table) = do
+abbrev pub int_type : List ℕ → Option ℕ → Result ArrowType FlatFault
+int_type bytes None = Ok (UnsignedInt 0)
+int_type bytes (Some table) = do
   bits ← scalar bytes table 0 4
   is_signed ← scalar bytes table 1 1
-  Ok (record { bits = bits; is_signed = not (is_signed == 0) })
+  Ok (if is_signed == 0 then UnsignedInt bits else SignedInt bits)
 
--- the Int table to which the reference at a place leads
-abbrev pub int_table_by : List ℕ → Option ℕ → Result IntTable FlatFault
-int_table_by bytes place = do
-  table ← target_of bytes place
-  int_table_of bytes table
+-- a FixedSizeBinary table: byteWidth (32 bits); an absent table says 0
+abbrev pub fixed_type : List ℕ → Option ℕ → Result ArrowType FlatFault
+fixed_type bytes None = Ok (FixedSizeBinary 0)
+fixed_type bytes (Some table) = do
+  byte_width ← scalar bytes table 0 4
+  Ok (FixedSizeBinary byte_width)
 
--- the Int table of a field's type; other types have no fields, and their references are not
--- followed
-abbrev pub int_of_type : List ℕ → ℕ → Option ℕ → Result IntTable FlatFault
-int_of_type bytes type_type place = elim (type_type == 2) [
-  | true ↦ int_table_by bytes place
-  | false ↦ int_table_of bytes None
-]
+-- a Date table: unit (16 bits); an absent unit, and an absent table, says milliseconds (1)
+abbrev pub date_type : List ℕ → Option ℕ → Result ArrowType FlatFault
+date_type bytes None = Ok (Date 1)
+date_type bytes (Some table) = do
+  place ← field_at bytes table 0
+  unit ← number_or bytes 2 1 place
+  Ok (Date unit)
+
+-- what the table of a type says, by the type's number; other types have no fields, and their
+-- references are not followed (Schema.fbs, "Type")
+abbrev pub type_at : List ℕ → ℕ → Option ℕ → Result ArrowType FlatFault
+type_at bytes number place =
+    if number == 2 then target_of bytes place >>= int_type bytes
+    else if number == 8 then target_of bytes place >>= date_type bytes
+    else if number == 15 then target_of bytes place >>= fixed_type bytes
+    else Ok (Plain number)
 
 abbrev pub field_table_at : List ℕ → ℕ → Result FieldTable FlatFault
 field_table_at bytes table = do
   name ← text bytes table 0
   nullable ← scalar bytes table 1 1
   type_type ← scalar bytes table 2 1
-  type' ← field_at bytes table 3
+  type_place ← field_at bytes table 3
   dictionary ← field_at bytes table 4
   children ← elements bytes table 5 4
-  int ← int_of_type bytes type_type type'
+  type' ← type_at bytes type_type type_place
   Ok (record {
     name = name;
     nullable = not (nullable == 0);
-    type_type = type_type;
-    type' = type';
+    type_place = type_place;
     dictionary = is_some dictionary;
     children = children.count;
-    int = int;
+    type' = type';
   })
 
--- an Int type of so many bits, signed or not, has these values; other types say nothing more
-abbrev pub has_values : IntTable → Values → Bool
-has_values int (signed width) = (int.bits == 8 * byte_len width) && int.is_signed
-has_values int (unsigned width) = (int.bits == 8 * byte_len width) && not int.is_signed
-has_values int truths = true
-has_values int texts = true
-has_values int blobs = true
+-- the types are one and the same
+abbrev pub is_type : ArrowType → ArrowType → Bool
+is_type (SignedInt bits) (SignedInt others) = bits == others
+is_type (UnsignedInt bits) (UnsignedInt others) = bits == others
+is_type (FixedSizeBinary bytes) (FixedSizeBinary others) = bytes == others
+is_type (Date unit) (Date other) = unit == other
+is_type (Plain number) (Plain other) = number == other
+is_type _ _ = false
 
--- the kind whose type this is (Schema.fbs, "Type" and "Int")
-abbrev pub kind_of_type : ℕ → IntTable → Option Kind
-kind_of_type type_type int = find
-    (λ kind. (type_number kind == type_type) && has_values int (values_of kind)) kinds
+-- among which kinds the kind of a type is: those with a name of their own, or that of so many bytes
+-- each, of which there is one for each width
+abbrev pub kinds_like : ArrowType → List Kind
+kinds_like (SignedInt bits) = kinds
+kinds_like (UnsignedInt bits) = kinds
+kinds_like (FixedSizeBinary bytes) = if is_byte_width bytes then Fixed bytes ∷ [] else []
+kinds_like (Date unit) = kinds
+kinds_like (Plain number) = kinds
+
+-- the kind whose type this is
+abbrev pub kind_of_type : ArrowType → Option Kind
+kind_of_type type' = find (λ kind. is_type (type_of kind) type') (kinds_like type')
 
 -- The kind of a field's values: its name is a text, it is not dictionary-encoded, its type is one
 -- that is read, and it has no children (Schema.fbs, "Field").
@@ -188,8 +208,8 @@ abbrev pub kind_of_field : FieldTable → Result Kind MetaFault
 kind_of_field field = do
   name ← rule fault.Utf8 (is_utf8 field.name)
   dictionary ← rule fault.Dictionary (not field.dictionary)
-  kind ← or_fault fault.Kind (kind_of_type field.type_type field.int)
-  type' ← rule fault.Shape (is_some field.type')
+  kind ← or_fault fault.Kind (kind_of_type field.type')
+  type_place ← rule fault.Shape (is_some field.type_place)
   childless ← rule fault.Shape (field.children == 0)
   Ok kind
 

@@ -1,8 +1,11 @@
 -- Streams that were changed by a byte or cut, and what they read as.
 use Rattle.std.specs.Prelude.{◌≡◌, ℕ, List, [], ◌∷◌, ◌++◌, map, take, Option, None, Some}
+use Rattle.std.specs.Prelude.{true, length, slice_set, codes, pos}
+use Rattle.cell_model.specs.declared.cell.Cell.{Cell}
+use Rattle.cell_model.specs.declared.cell.Cell.TheVariants.{Null, Num, Text, Blob}
 use Rattle.cell_model.specs.declared.kind.Kind.TheVariants as kind
-use Rattle.std.specs.Prelude.{true, length, slice_set}
 use Rattle.arrow_spec.specs.Examples.{key_alone, key_and, three_keys, nine_rows}
+use Rattle.arrow_spec.specs.LaterKinds.{later_bytes, later_columns, later_rows}
 use Rattle.arrow_spec.specs.Streams.{stream_of}
 use Rattle.stream_spec.specs.Streams.{Reads, reading_of, fault_at}
 use Rattle.stream_spec.specs.declared.fault.Cause.{Cause}
@@ -76,3 +79,41 @@ CutsAreFound = map cut (0 ∷ 3 ∷ 7 ∷ 8 ∷ 223 ∷ 224 ∷ 225 ∷ 551 ∷ 
 -- what is behind the end word is not looked at
 abbrev pub BehindTheEndIsFree : Type 0
 BehindTheEndIsFree = Reads (nine_stream ++ 1 ∷ 2 ∷ 3 ∷ []) (key_and kind.Utf8 true) nine_rows
+
+-- the stream of a date, of two bytes and of a large text
+abbrev pub LaterKindsAreRead : Type 0
+LaterKindsAreRead = Reads later_bytes later_columns (later_rows ∷ [])
+
+-- the same rows, but a `b` alone as the text of the first, and bytes in the second too
+abbrev pub changed_rows : List (List Cell)
+changed_rows =
+    (Num (pos 1) ∷ Num (pos 19000) ∷ Blob (0x0a ∷ 0xff ∷ []) ∷ Text (codes "b") ∷ [])
+    ∷ (Num (pos 2) ∷ Null ∷ Blob (0x07 ∷ 0x00 ∷ []) ∷ Text [] ∷ []) ∷ []
+
+-- that stream with a first offset of 1, and with two bytes at the second slot, which is then no
+-- longer null
+abbrev pub ChangedLaterKindsAreRead : Type 0
+ChangedLaterKindsAreRead = Reads
+    (with_bytes ((736, 0x01) ∷ (512, 0x00) ∷ (720, 0x03) ∷ (730, 0x07) ∷ []) later_bytes)
+    later_columns (changed_rows ∷ [])
+
+-- the fault of that stream with these bytes changed
+abbrev pub later_fault_with : List (ℕ × ℕ) → Option StreamFault
+later_fault_with changes = (reading_of (with_bytes changes later_bytes)).fault
+
+-- A unit that is absent or another than days, a width that is absent, 0, 1,025 or negative, a
+-- date's and a width's table that is absent; too few bytes for the width, for two dates and for
+-- three offsets; an offset beyond 32 bits, a negative one, one above the next, the last beyond the
+-- values, and a large text that is none.
+abbrev pub LaterBytesAreFound : Type 0
+LaterBytesAreFound = map later_fault_with
+    (((220, 0x00) ∷ []) ∷ ((228, 0x01) ∷ []) ∷ ((292, 0x00) ∷ []) ∷ ((300, 0x00) ∷ [])
+    ∷ ((300, 0x01) ∷ (301, 0x04) ∷ []) ∷ ((303, 0x80) ∷ []) ∷ ((178, 0x00) ∷ [])
+    ∷ ((250, 0x00) ∷ []) ∷ ((300, 0x03) ∷ []) ∷ ((600, 0x07) ∷ []) ∷ ((664, 0x17) ∷ [])
+    ∷ ((748, 0x01) ∷ []) ∷ ((751, 0x80) ∷ []) ∷ ((736, 0xff) ∷ []) ∷ ((680, 0x01) ∷ [])
+    ∷ ((760, 0xff) ∷ []) ∷ [])
+    ≡ at 0 cause.Kind ∷ at 0 cause.Kind ∷ at 0 cause.Kind ∷ at 0 cause.Kind
+    ∷ at 0 cause.Kind ∷ at 0 cause.Kind ∷ at 0 cause.Kind ∷ at 0 cause.Kind
+    ∷ at 376 cause.Buffer ∷ at 376 cause.Buffer ∷ at 376 cause.Buffer
+    ∷ at 376 cause.Offsets ∷ at 376 cause.Offsets ∷ at 376 cause.Offsets ∷ at 376 cause.Offsets
+    ∷ at 376 cause.Utf8 ∷ []

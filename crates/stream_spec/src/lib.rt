@@ -7,6 +7,4 @@ pub mod fault;
 pub mod message;
 
 pub use fault::{Cause, MetaFault, StreamFault};
-pub use message::{
-    BufferPlace, Elements, FieldNode, Head, HeadKind, IntTable, MessageTable, SchemaTable,
-};
+pub use message::{BufferPlace, Elements, FieldNode, Head, HeadKind, MessageTable, SchemaTable};

@@ -42,13 +42,6 @@ pub struct SchemaTable {
     pub fields: Elements,
 }
 
-/// An Int table: how many bits, and whether signed.
-#[derive(Clone, Copy, Debug)]
-pub struct IntTable {
-    pub bits: u64,
-    pub is_signed: bool,
-}
-
 /// A node of a record batch: how many slots a column has, and how many of them are null.
 #[derive(Clone, Copy, Debug)]
 pub struct FieldNode {

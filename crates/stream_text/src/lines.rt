@@ -8,7 +8,7 @@ use cell_model::{Column, Row};
 use itoa::Buffer;
 use std::alloc::AllocError;
 use stream_spec::{Cause, StreamFault};
-use word_text::{kind_text, put_cells, put_number, put_quoted, put_word};
+use word_text::{put_cells, put_kind, put_number, put_quoted, put_word};
 
 /// The word of a cause.
 fn cause_text(cause: Cause) -> &'static [u8]
@@ -37,7 +37,7 @@ fn put_column(out: &mut Vec<u8>, column: &Column) -> Result<(), AllocError>
 {
     put_quoted(out, column.name.as_slice())?;
     out.push(b':')?;
-    out.extend_from_slice(kind_text(column.kind))?;
+    put_kind(out, column.kind)?;
     if column.nullable {
         out.push(b'?')?;
     }

@@ -73,7 +73,8 @@ impl TakeBatches for RowLines {
           ∙ append_assoc first.text.items (lines_text (map row_line rows))
           (lines_text (map row_line more))
           ∙ ap (λ t. first.text.items ++ t) (sym (flat_map-append (λ line. line ++ 10 ∷ [])
-          (map row_line rows) (map row_line more)) ∙ ap lines_text (sym (map-append row_line rows more)));
+          (map row_line rows) (map row_line more))
+          ∙ ap lines_text (sym (map-append row_line rows more)));
       count_is = q.count_is ∙ ap (λ n. n + length more) p.count_is
           ∙ add_assoc first.count (length rows) (length more)
           ∙ ap (λ n. first.count + n) (sym (length-append rows more));

@@ -1,6 +1,6 @@
 //! What a stream in pieces shows: the lines that each piece decides.
-ghost use Rattle.std.specs.Prelude.{◌≡◌, ◌+◌, ◌<◌, ◌≤◌, ◌^◌, ◌++◌, ◌∷◌, ℕ, List, [], Option, IfOk, OnOk};
-ghost use Rattle.std.specs.Prelude.{length, if◌then◌else◌};
+ghost use Rattle.std.specs.Prelude.{◌≡◌, ◌+◌, ◌<◌, ◌≤◌, ◌^◌, ◌++◌, ◌∷◌, ℕ, List, [], Option, IfOk};
+ghost use Rattle.std.specs.Prelude.{OnOk, length, if◌then◌else◌};
 ghost use Rattle.std.specs.Option.{option_copied};
 ghost use Rattle.stream_pieces.specs.Pieces.{opening, schema_of};
 ghost use Rattle.stream_text.specs.Shown.{front_lines};

@@ -1,5 +1,7 @@
-//! A test of rows: which rule of its columns a row breaks.
-use cell_model::{Bytes, Cell, Column, Kind, MOST_BYTES, Row, RowFault, Schema, are_named};
+//! Tests of rows: which rule of its columns a row breaks, and how many a block has at most.
+use cell_model::{
+    ByteWidth, Bytes, Cell, Column, Kind, MOST_BYTES, Row, RowFault, Schema, are_named, most_slots,
+};
 use std::alloc::Global;
 use std::test::Fail;
 
@@ -17,6 +19,11 @@ fn schema(alloc: Global) -> Result<Schema, Fail> {
             nullable,
         })?;
     }
+    schema_of(columns)
+}
+
+/// The schema of the columns.
+fn schema_of(columns: Vec<Column>) -> Result<Schema, Fail> {
     if are_named(&columns) {
         Ok(Schema::new(columns)?)
     } else {
@@ -65,5 +72,32 @@ fn a_text_has_at_most_65535_bytes(rt: HostRuntime) -> Result<(), Fail> {
     let long = vec![in rt.alloc(); b'x'; MOST_BYTES + 1]?;
     let row = row(rt.alloc(), Some(0), Some(long.as_slice()))?;
     assert_eq!(rt; schema.fits(&row), Err(RowFault::LongAt(2)));
+    Ok(())
+}
+
+/// The key's column and 31 columns of the widest kind.
+fn widest_schema(alloc: Global) -> Result<Schema, Fail> {
+    let width = ByteWidth::new(1024).ok_or("1,024 bytes are a width")?;
+    let mut columns = Vec::new(alloc);
+    columns.push(Column {
+        name: Bytes::from_slice(alloc, b"key")?,
+        kind: Kind::I64,
+        nullable: false,
+    })?;
+    for name in b'A'..=b'_' {
+        columns.push(Column {
+            name: Bytes::from_slice(alloc, &[name])?,
+            kind: Kind::Fixed(width),
+            nullable: true,
+        })?;
+    }
+    schema_of(columns)
+}
+
+#[test]
+fn a_block_has_32_of_the_widest_rows(rt: HostRuntime) -> Result<(), Fail> {
+    let schema = widest_schema(rt.alloc())?;
+    assert_eq!(rt; schema.columns().len(), 32);
+    assert_eq!(rt; most_slots(&schema), 32);
     Ok(())
 }

@@ -11,7 +11,8 @@ use Rattle.cell_model.specs.declared.column.Column.{Column}
 use Rattle.cell_model.specs.declared.row.RowFault.{RowFault}
 use Rattle.cell_model.specs.declared.row.RowFault.TheVariants.{Arity}
 use Rattle.cell_model.specs.Rows.{cell_fault, first_fault, fits}
-use Rattle.cell_model.specs.Values.{is_binary_kind, are_bytes}
+use Rattle.cell_model.specs.Kinds.{values_of, takes_bytes}
+use Rattle.cell_model.specs.Values.{are_bytes}
 use Rattle.workload_spec.specs.Words.{cell_text, cell_words}
 use Rattle.workload_spec.specs.Grammar.{cells_of}
 use Rattle.workload_spec.specs.declared.script.Cause.{Cause}
@@ -32,7 +33,7 @@ bytes_of column Null fit = refl
 bytes_of column (Num z) fit = refl
 bytes_of column (Truth truth) fit = refl
 bytes_of column (Text text) fit = refl
-bytes_of column (Blob bytes) fit = (and_parts (is_binary_kind column.kind) (are_bytes bytes) (value_of_fit column (Blob bytes) refl fit)).1
+bytes_of column (Blob bytes) fit = (and_parts (takes_bytes (values_of column.kind) (length bytes)) (are_bytes bytes) (value_of_fit column (Blob bytes) refl fit)).1
 
 -- Cells that each fit their columns have only bytes.
 all_bytes : (columns : List Column) (cells : List Cell) (at : ℕ) → length cells ≡ length columns → is_none (first_fault at columns cells) ≡ true → list_all has_only_bytes cells ≡ true

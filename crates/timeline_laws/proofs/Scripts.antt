@@ -15,7 +15,7 @@ use Rattle.workload_spec.specs.declared.script.Script.{Script}
 use Rattle.workload_spec.specs.declared.reply.Who.TheVariants.{Session, Worker}
 use Rattle.workload_spec.specs.declared.reply.Said.{Said}
 use Rattle.workload_spec.specs.Grammar.{table_named}
-use Rattle.workload_spec.specs.Valid.{is_valid, has_head, is_table, is_table_place, is_command, is_name, is_name_byte, is_lower_case, is_within, are_columns, are_slots, are_blocks, have_own_names, most_tables, most_sessions, most_workers, most_turns, is_line, all_lines, is_export}
+use Rattle.workload_spec.specs.Valid.{is_valid, has_head, is_table, is_table_place, is_command, is_name, is_name_byte, is_lower_case, is_within, are_columns, are_slots, are_blocks, have_own_names, most_tables, most_sessions, most_workers, most_turns, is_line, all_lines, is_export, has_version}
 use Rattle.workload_laws.proofs.Apart.{is_plain}
 use Rattle.workload_laws.proofs.CommandsBack.{place_stands}
 use Rattle.outcome_spec.specs.Forms.{Due, commands_of, dues_to, dues_in, dues_of, turn_of, is_upkeep}
@@ -321,7 +321,7 @@ script-sound script h =
     let a = and_parts (has_head script && nat_lt 0 (length script.rounds) && list_all (is_line script) (all_lines script)) (nat_le (count_by (λ line. is_export line.command) (all_lines script)) 1) h in
     let b = and_parts (has_head script && nat_lt 0 (length script.rounds)) (list_all (is_line script) (all_lines script)) a.0 in
     let c = and_parts (has_head script) (nat_lt 0 (length script.rounds)) b.0 in
-    let first = script.version == 1 in
+    let first = has_version script in
     let second = is_within 1 most_tables (length script.tables) in
     let third = list_all is_table script.tables in
     let fourth = have_own_names script.tables in

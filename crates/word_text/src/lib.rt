@@ -4,5 +4,5 @@
 mod words;
 
 pub use words::{
-    kind_text, put_cells, put_key, put_natural, put_number, put_quoted, put_table_name, put_word,
+    put_cells, put_key, put_kind, put_natural, put_number, put_quoted, put_table_name, put_word,
 };

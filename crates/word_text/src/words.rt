@@ -147,21 +147,28 @@ pub fn put_table_name(out: &mut Vec<u8>, tables: &[TableDecl], place: u32) -> Re
     }
 }
 
-/// The word of a kind.
-pub fn kind_text(kind: Kind) -> &'static [u8]
-    ensures { result.now ≡ kind_text kind }
+/// The name of a kind.
+pub fn put_kind(out: &mut Vec<u8>, kind: Kind) -> Result<(), AllocError>
+    ensures { OnOk result (out.new.items ≡ out.old.items ++ kind_text kind) }
 {
     match kind {
-        Kind::I8 => b"i8",
-        Kind::I16 => b"i16",
-        Kind::I32 => b"i32",
-        Kind::I64 => b"i64",
-        Kind::U8 => b"u8",
-        Kind::U16 => b"u16",
-        Kind::U32 => b"u32",
-        Kind::U64 => b"u64",
-        Kind::Bool => b"bool",
-        Kind::Utf8 => b"utf8",
-        Kind::Binary => b"binary",
+        Kind::I8 => out.extend_from_slice(b"i8"),
+        Kind::I16 => out.extend_from_slice(b"i16"),
+        Kind::I32 => out.extend_from_slice(b"i32"),
+        Kind::I64 => out.extend_from_slice(b"i64"),
+        Kind::U8 => out.extend_from_slice(b"u8"),
+        Kind::U16 => out.extend_from_slice(b"u16"),
+        Kind::U32 => out.extend_from_slice(b"u32"),
+        Kind::U64 => out.extend_from_slice(b"u64"),
+        Kind::Bool => out.extend_from_slice(b"bool"),
+        Kind::Utf8 => out.extend_from_slice(b"utf8"),
+        Kind::Binary => out.extend_from_slice(b"binary"),
+        Kind::LargeUtf8 => out.extend_from_slice(b"large_utf8"),
+        Kind::LargeBinary => out.extend_from_slice(b"large_binary"),
+        Kind::Fixed(width) => {
+            out.extend_from_slice(b"fixed")?;
+            put_natural(out, u64::from(width.bytes()))
+        }
+        Kind::Date => out.extend_from_slice(b"date"),
     }
 }

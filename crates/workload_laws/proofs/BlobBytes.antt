@@ -6,12 +6,15 @@ use Rattle.std.specs.Char.{digit_value, digit_char}
 use Rattle.std.proofs.lemmas.Str.{digit_value-digit_char}
 use Rattle.std.proofs.lemmas.Bool.{lt-ltb}
 use Rattle.cell_model.specs.declared.cell.Cell.{Cell}
-use Rattle.cell_model.specs.declared.cell.Cell.TheVariants.{Null}
+use Rattle.cell_model.specs.declared.cell.Cell.TheVariants.{Null, Blob}
 use Rattle.cell_model.specs.declared.kind.Kind.{Kind}
-use Rattle.cell_model.specs.declared.kind.Kind.TheVariants as kind
+use Rattle.cell_model.specs.declared.values.Values.{Values}
+use Rattle.cell_model.specs.declared.values.Values.TheVariants.{Signed, Unsigned, Truths}
+use Rattle.cell_model.specs.declared.values.Values.TheVariants.{Texts, Blobs, Strips}
+use Rattle.cell_model.specs.Kinds.{values_of}
 use Rattle.cell_model.specs.declared.column.Column.{Column}
 use Rattle.workload_spec.specs.Words.{hex_digits, cell_text}
-use Rattle.workload_spec.specs.Reading.{spelled, bytes_of_digits, value_in, cell_in}
+use Rattle.workload_spec.specs.Reading.{spelled, bytes_of_digits, blob_in, value_among, value_in, cell_in}
 use Rattle.workload_laws.specs.Bytes.{has_only_bytes}
 use Rattle.workload_laws.proofs.Lists.{joined}
 
@@ -39,28 +42,23 @@ digits_small (high ∷ low ∷ rest) e =
     joined (lt-ltb value 256 (byte_small high low h l)) (digits_small rest r)
 
 -- Bytes that spell the word from which they are read are below 256.
-blob_small : (word : List ℕ) → cell_text (value_in kind.Binary word) ≡ word → has_only_bytes (value_in kind.Binary word) ≡ true
+blob_small : (word : List ℕ) → cell_text (Blob (blob_in word)) ≡ word → has_only_bytes (Blob (blob_in word)) ≡ true
 blob_small [] e = refl
 blob_small (mark ∷ digits) e = let r : flat_map hex_digits (bytes_of_digits digits) ≡ digits = cc in digits_small digits r
 
 -- A value that spells the word from which it is read has only bytes.
-value_bytes : (k : Kind) (word : List ℕ) → cell_text (value_in k word) ≡ word → has_only_bytes (value_in k word) ≡ true
-value_bytes kind.Binary word e = blob_small word e
-value_bytes kind.I8 word e = refl
-value_bytes kind.I16 word e = refl
-value_bytes kind.I32 word e = refl
-value_bytes kind.I64 word e = refl
-value_bytes kind.U8 word e = refl
-value_bytes kind.U16 word e = refl
-value_bytes kind.U32 word e = refl
-value_bytes kind.U64 word e = refl
-value_bytes kind.Bool word e = refl
-value_bytes kind.Utf8 word e = refl
+value_bytes : (values : Values) (word : List ℕ) → cell_text (value_among values word) ≡ word → has_only_bytes (value_among values word) ≡ true
+value_bytes (Signed width) word e = refl
+value_bytes (Unsigned width) word e = refl
+value_bytes Truths word e = refl
+value_bytes (Texts width) word e = refl
+value_bytes (Blobs width) word e = blob_small word e
+value_bytes (Strips bytes) word e = blob_small word e
 
 -- A null or a value that spells the word from which it is read has only bytes.
 cell_by : (b : Bool) (k : Kind) (word : List ℕ) → cell_text (if b then Null else value_in k word) ≡ word → has_only_bytes (if b then Null else value_in k word) ≡ true
 cell_by true k word e = refl
-cell_by false k word e = value_bytes k word e
+cell_by false k word e = value_bytes (values_of k) word e
 
 -- the value that is found for a word is the one that spells it
 pub found_is : {X : Type 0} (text_of : X → List ℕ) (word : List ℕ) (value found : X) → spelled text_of word value ≡ Some found → value ≡ found

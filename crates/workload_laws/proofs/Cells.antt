@@ -3,7 +3,7 @@ use Rattle.std.proofs.Common.{◌≡◌, ℕ, ◌+◌, Bool, true, false, List, 
 use Rattle.std.specs.Prelude.{◌==◌, not, nat_lt, Option, None, Some, option_and_then, is_none, if◌then◌else◌, ℤ, Ok}
 use Rattle.std.specs.Option.{option_map_or}
 use Rattle.std.specs.List.{list_all}
-use Rattle.std.proofs.lemmas.Bool.{eq-eqb, and_parts}
+use Rattle.std.proofs.lemmas.Bool.{eq-eqb, le-ltb, and_parts}
 use Rattle.cell_model.specs.declared.cell.Cell.{Cell}
 use Rattle.cell_model.specs.declared.cell.Cell.TheVariants.{Num}
 use Rattle.cell_model.specs.declared.kind.Kind.{Kind}
@@ -12,7 +12,7 @@ use Rattle.cell_model.specs.declared.column.Column.{Column}
 use Rattle.cell_model.specs.declared.row.RowFault.{RowFault}
 use Rattle.cell_model.specs.declared.row.RowFault.TheVariants.{Arity, NullAt, RangeAt, LongAt}
 use Rattle.cell_model.specs.Rows.{cell_fault, first_fault, fits}
-use Rattle.cell_model.specs.Values.{is_value_of, is_null, byte_length, most_bytes, is_integer_of}
+use Rattle.cell_model.specs.Values.{is_value_of, is_null, byte_length, most_bytes_of, is_integer_of}
 use Rattle.cell_model.specs.Schemas.{is_i64, is_key, begins_with_key}
 use Rattle.workload_spec.specs.declared.script.Cause.TheVariants as cause
 use Rattle.workload_spec.specs.Words.{cell_text}
@@ -58,7 +58,7 @@ fault_by false nullable false false at = refl
 
 -- the number of a column changes nothing about whether a cell has a fault
 pub fault_at : (column : Column) (cell : Cell) (at : ℕ) → is_none (cell_fault at column cell) ≡ is_none (cell_fault 0 column cell)
-fault_at column cell at = fault_by (is_null cell) column.nullable (not (is_value_of column.kind cell)) (nat_lt most_bytes (byte_length cell)) at
+fault_at column cell at = fault_by (is_null cell) column.nullable (not (is_value_of column.kind cell)) (nat_lt (most_bytes_of column.kind) (byte_length cell)) at
 
 -- Where neither the first cell nor the rest has a fault, there is none.
 first_none : (b : Bool) (here rest : Option RowFault) → is_none here ≡ b → b ≡ true → is_none rest ≡ true → is_none (if b then rest else here) ≡ true
@@ -93,23 +93,14 @@ cells_are (column ∷ columns) (word ∷ words) cells many e =
 -- a kind that is tested to be `i64` is
 pub i64_is : (k : Kind) → is_i64 k ≡ true → k ≡ kind.I64
 i64_is kind.I64 e = refl
-i64_is kind.I8 e = absurd cc
-i64_is kind.I16 e = absurd cc
-i64_is kind.I32 e = absurd cc
-i64_is kind.U8 e = absurd cc
-i64_is kind.U16 e = absurd cc
-i64_is kind.U32 e = absurd cc
-i64_is kind.U64 e = absurd cc
-i64_is kind.Bool e = absurd cc
-i64_is kind.Utf8 e = absurd cc
-i64_is kind.Binary e = absurd cc
+i64_is _ e = absurd cc
 
 -- A number that a key may be fits the column of the key.
 key_fits : (column : Column) (key : ℤ) → is_key column ≡ true → is_key_number key ≡ true → is_none (cell_fault 0 column (Num key)) ≡ true
 key_fits column key is number =
     let k : column.kind ≡ kind.I64 = i64_is column.kind (and_parts _ (is_i64 column.kind) (and_parts _ (not column.nullable) is).0).1 in
     let v : is_integer_of column.kind key ≡ true = rw k number in
-    rw v refl
+    rw (v, le-ltb (most_bytes_of column.kind) 0 (omega arith)) refl
 
 -- Where there are as many cells as columns and no fault, the row has none.
 row_by : (b : Bool) (fault : Option RowFault) → b ≡ true → is_none fault ≡ true → is_none (if b then fault else Some Arity) ≡ true

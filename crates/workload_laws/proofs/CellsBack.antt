@@ -8,16 +8,19 @@ use Rattle.std.specs.List.{list_all}
 use Rattle.std.proofs.lemmas.Bool.{leb-true, and_parts}
 use Rattle.cell_model.specs.declared.cell.Cell.{Cell}
 use Rattle.cell_model.specs.declared.cell.Cell.TheVariants.{Null, Num, Truth, Text, Blob}
-use Rattle.cell_model.specs.declared.kind.Kind.{Kind}
-use Rattle.cell_model.specs.declared.kind.Kind.TheVariants as kind
+use Rattle.cell_model.specs.declared.values.Values.{Values}
+use Rattle.cell_model.specs.declared.values.Values.TheVariants.{Signed, Unsigned, Truths}
+use Rattle.cell_model.specs.declared.values.Values.TheVariants.{Texts, Blobs, Strips}
+use Rattle.cell_model.specs.declared.width.NumberWidth.TheVariants as number
+use Rattle.cell_model.specs.Kinds.{values_of, are_truths, are_texts, takes_bytes}
 use Rattle.cell_model.specs.declared.column.Column.{Column}
 use Rattle.cell_model.specs.declared.row.RowFault.{RowFault}
 use Rattle.cell_model.specs.declared.row.RowFault.TheVariants.{NullAt, RangeAt, LongAt}
 use Rattle.cell_model.specs.Rows.{cell_fault, first_fault}
-use Rattle.cell_model.specs.Values.{is_between, is_integer_of, is_bool_kind, is_utf8_kind, is_binary_kind, are_bytes, is_value_of, is_null, byte_length, most_bytes}
+use Rattle.cell_model.specs.Values.{is_between, is_integer_in, are_bytes, is_value_in, is_value_of, is_null, byte_length, most_bytes_of}
 use Rattle.workload_spec.specs.declared.script.Cause.TheVariants as cause
 use Rattle.workload_spec.specs.Words.{cell_text, cell_words, quoted}
-use Rattle.workload_spec.specs.Reading.{integer_in, value_in, cell_in, cell_of, blob_in, text_in}
+use Rattle.workload_spec.specs.Reading.{integer_in, value_among, value_in, cell_in, cell_of, blob_in, text_in}
 use Rattle.workload_spec.specs.Grammar.{or_cause, cells_of}
 use Rattle.workload_laws.specs.Bytes.{has_only_bytes}
 use Rattle.workload_laws.proofs.Results.{gives}
@@ -36,75 +39,42 @@ unsigned_small : (high : ℕ) (z : ℤ) → high < 2 ^ 64 → is_between (pos 0)
 unsigned_small high (pos n) h e = omega (arith, leb-true n high (and_parts (int_le (pos 0) (pos n)) (nat_le n high) e).1, h)
 unsigned_small high (negsuc n) h e = absurd cc
 
--- An integer that a kind takes has a magnitude below 2^64.
-small_of : (k : Kind) (z : ℤ) → is_integer_of k z ≡ true → magnitude z < 2 ^ 64
-small_of kind.I8 z e = signed_small (2 ^ 7 - 1) (2 ^ 7 - 1) z (omega arith) (omega arith) e
-small_of kind.I16 z e = signed_small (2 ^ 15 - 1) (2 ^ 15 - 1) z (omega arith) (omega arith) e
-small_of kind.I32 z e = signed_small (2 ^ 31 - 1) (2 ^ 31 - 1) z (omega arith) (omega arith) e
-small_of kind.I64 z e = signed_small (2 ^ 63 - 1) (2 ^ 63 - 1) z (omega arith) (omega arith) e
-small_of kind.U8 z e = unsigned_small (2 ^ 8 - 1) z (omega arith) e
-small_of kind.U16 z e = unsigned_small (2 ^ 16 - 1) z (omega arith) e
-small_of kind.U32 z e = unsigned_small (2 ^ 32 - 1) z (omega arith) e
-small_of kind.U64 z e = unsigned_small (2 ^ 64 - 1) z (omega arith) e
-small_of kind.Bool z e = absurd cc
-small_of kind.Utf8 z e = absurd cc
-small_of kind.Binary z e = absurd cc
+-- an integer of a sort has a magnitude below 2^64
+pub small_of : (values : Values) (z : ℤ) → is_integer_in values z ≡ true → magnitude z < 2 ^ 64
+small_of (Signed number.Bits8) z e = signed_small (2 ^ 7 - 1) (2 ^ 7 - 1) z (omega arith) (omega arith) e
+small_of (Signed number.Bits16) z e = signed_small (2 ^ 15 - 1) (2 ^ 15 - 1) z (omega arith) (omega arith) e
+small_of (Signed number.Bits32) z e = signed_small (2 ^ 31 - 1) (2 ^ 31 - 1) z (omega arith) (omega arith) e
+small_of (Signed number.Bits64) z e = signed_small (2 ^ 63 - 1) (2 ^ 63 - 1) z (omega arith) (omega arith) e
+small_of (Unsigned number.Bits8) z e = unsigned_small (2 ^ 8 - 1) z (omega arith) e
+small_of (Unsigned number.Bits16) z e = unsigned_small (2 ^ 16 - 1) z (omega arith) e
+small_of (Unsigned number.Bits32) z e = unsigned_small (2 ^ 32 - 1) z (omega arith) e
+small_of (Unsigned number.Bits64) z e = unsigned_small (2 ^ 64 - 1) z (omega arith) e
+small_of Truths z e = absurd cc
+small_of (Texts width) z e = absurd cc
+small_of (Blobs width) z e = absurd cc
+small_of (Strips bytes) z e = absurd cc
 
--- For a kind that takes an integer, the value of a word is its integer.
-number_in : (k : Kind) (z : ℤ) (word : List ℕ) → is_integer_of k z ≡ true → value_in k word ≡ Num (integer_in word)
-number_in kind.I8 z word e = refl
-number_in kind.I16 z word e = refl
-number_in kind.I32 z word e = refl
-number_in kind.I64 z word e = refl
-number_in kind.U8 z word e = refl
-number_in kind.U16 z word e = refl
-number_in kind.U32 z word e = refl
-number_in kind.U64 z word e = refl
-number_in kind.Bool z word e = absurd cc
-number_in kind.Utf8 z word e = absurd cc
-number_in kind.Binary z word e = absurd cc
+-- Among integers the value of a word is its integer.
+number_in : (values : Values) (z : ℤ) (word : List ℕ) → is_integer_in values z ≡ true → value_among values word ≡ Num (integer_in word)
+number_in (Signed width) z word e = refl
+number_in (Unsigned width) z word e = refl
+number_in _ z word e = absurd cc
 
--- For truths, the value of a word is whether it says true.
-truth_in : (k : Kind) (word : List ℕ) → is_bool_kind k ≡ true → value_in k word ≡ Truth (bytes_eq word (codes "true"))
-truth_in kind.Bool word e = refl
-truth_in kind.I8 word e = absurd cc
-truth_in kind.I16 word e = absurd cc
-truth_in kind.I32 word e = absurd cc
-truth_in kind.I64 word e = absurd cc
-truth_in kind.U8 word e = absurd cc
-truth_in kind.U16 word e = absurd cc
-truth_in kind.U32 word e = absurd cc
-truth_in kind.U64 word e = absurd cc
-truth_in kind.Utf8 word e = absurd cc
-truth_in kind.Binary word e = absurd cc
+-- Among truth values it is whether the word is `true`.
+truth_in : (values : Values) (word : List ℕ) → are_truths values ≡ true → value_among values word ≡ Truth (bytes_eq word (codes "true"))
+truth_in Truths word e = refl
+truth_in _ word e = absurd cc
 
--- For texts, the value of a word is its text.
-a_text_in : (k : Kind) (word : List ℕ) → is_utf8_kind k ≡ true → value_in k word ≡ Text (text_in word)
-a_text_in kind.Utf8 word e = refl
-a_text_in kind.I8 word e = absurd cc
-a_text_in kind.I16 word e = absurd cc
-a_text_in kind.I32 word e = absurd cc
-a_text_in kind.I64 word e = absurd cc
-a_text_in kind.U8 word e = absurd cc
-a_text_in kind.U16 word e = absurd cc
-a_text_in kind.U32 word e = absurd cc
-a_text_in kind.U64 word e = absurd cc
-a_text_in kind.Bool word e = absurd cc
-a_text_in kind.Binary word e = absurd cc
+-- Among texts it is the text that the word spells.
+a_text_in : (values : Values) (word : List ℕ) → are_texts values ≡ true → value_among values word ≡ Text (text_in word)
+a_text_in (Texts width) word e = refl
+a_text_in _ word e = absurd cc
 
--- For bytes, the value of a word is its bytes.
-a_blob_in : (k : Kind) (word : List ℕ) → is_binary_kind k ≡ true → value_in k word ≡ Blob (blob_in word)
-a_blob_in kind.Binary word e = refl
-a_blob_in kind.I8 word e = absurd cc
-a_blob_in kind.I16 word e = absurd cc
-a_blob_in kind.I32 word e = absurd cc
-a_blob_in kind.I64 word e = absurd cc
-a_blob_in kind.U8 word e = absurd cc
-a_blob_in kind.U16 word e = absurd cc
-a_blob_in kind.U32 word e = absurd cc
-a_blob_in kind.U64 word e = absurd cc
-a_blob_in kind.Bool word e = absurd cc
-a_blob_in kind.Utf8 word e = absurd cc
+-- Among bytes it is the bytes that the word spells.
+a_blob_in : (values : Values) (count : ℕ) (word : List ℕ) → takes_bytes values count ≡ true → value_among values word ≡ Blob (blob_in word)
+a_blob_in (Blobs width) count word e = refl
+a_blob_in (Strips bytes) count word e = refl
+a_blob_in _ count word e = absurd cc
 
 -- a number is not spelled `null`
 number_not_null : (z : ℤ) → magnitude z < 2 ^ 64 → bytes_eq (signed_decimal z) (codes "null") ≡ false
@@ -114,14 +84,14 @@ number_not_null (pos n) small = let begins = decimal_begins n small in other_byt
     omega (arith, first, begins.most))
 number_not_null (negsuc n) small = refl
 
--- the cell that the spelling of a value of the kind stands for
-value_back : (k : Kind) (cell : Cell) → is_value_of k cell ≡ true → has_only_bytes cell ≡ true → (bytes_eq (cell_text cell) (codes "null") ≡ false) × (value_in k (cell_text cell) ≡ cell)
-value_back k Null is bytes = absurd cc
-value_back k (Num z) is bytes = (number_not_null z (small_of k z is), number_in k z (signed_decimal z) is ∙ ap Num (integer_back z (small_of k z is)))
-value_back k (Truth true) is bytes = (refl, truth_in k (codes "true") is)
-value_back k (Truth false) is bytes = (refl, truth_in k (codes "false") is)
-value_back k (Text text) is bytes = (refl, a_text_in k (quoted text) (and_parts (is_utf8_kind k) (is_utf8 text) is).0 ∙ ap Text (text_back text))
-value_back k (Blob bytes) is all = (refl, a_blob_in k (cell_text (Blob bytes)) (and_parts (is_binary_kind k) (are_bytes bytes) is).0 ∙ ap Blob (bytes_back bytes all))
+-- the cell that the spelling of a value stands for
+value_back : (values : Values) (cell : Cell) → is_value_in values cell ≡ true → has_only_bytes cell ≡ true → (bytes_eq (cell_text cell) (codes "null") ≡ false) × (value_among values (cell_text cell) ≡ cell)
+value_back values Null is bytes = absurd cc
+value_back values (Num z) is bytes = (number_not_null z (small_of values z is), number_in values z (signed_decimal z) is ∙ ap Num (integer_back z (small_of values z is)))
+value_back values (Truth true) is bytes = (refl, truth_in values (codes "true") is)
+value_back values (Truth false) is bytes = (refl, truth_in values (codes "false") is)
+value_back values (Text text) is bytes = (refl, a_text_in values (quoted text) (and_parts (are_texts values) (is_utf8 text) is).0 ∙ ap Text (text_back text))
+value_back values (Blob bytes) is all = (refl, a_blob_in values (length bytes) (cell_text (Blob bytes)) (and_parts (takes_bytes values (length bytes)) (are_bytes bytes) is).0 ∙ ap Blob (bytes_back bytes all))
 
 -- An option that is tested to be none is none.
 none_is : {X : Type 0} (o : Option X) → is_none o ≡ true → o ≡ None
@@ -136,8 +106,8 @@ value_by nullable false long e = absurd cc
 -- a cell that is no null and fits its column is a value of its kind
 pub value_of_fit : (column : Column) (cell : Cell) → is_null cell ≡ false → is_none (cell_fault 0 column cell) ≡ true → is_value_of column.kind cell ≡ true
 value_of_fit column cell some fit =
-    value_by column.nullable (is_value_of column.kind cell) (nat_lt most_bytes (byte_length cell))
-    (subst (λ (b : Bool). is_none (if b then (if column.nullable then None else Some (NullAt 0)) else if not (is_value_of column.kind cell) then Some (RangeAt 0) else if nat_lt most_bytes (byte_length cell) then Some (LongAt 0) else None) ≡ true) some fit)
+    value_by column.nullable (is_value_of column.kind cell) (nat_lt (most_bytes_of column.kind) (byte_length cell))
+    (subst (λ (b : Bool). is_none (if b then (if column.nullable then None else Some (NullAt 0)) else if not (is_value_of column.kind cell) then Some (RangeAt 0) else if nat_lt (most_bytes_of column.kind) (byte_length cell) then Some (LongAt 0) else None) ≡ true) some fit)
 
 -- A cell that fits its column is kept behind the test for faults.
 kept : (column : Column) (cell : Cell) → is_none (cell_fault 0 column cell) ≡ true → option_map_or (λ f. None) (cell_fault 0 column cell) (Some cell) ≡ Some cell
@@ -152,7 +122,7 @@ found_back column word cell found text fit =
 -- A cell that is no null and fits its column is found for its spelling.
 value_found : (column : Column) (cell : Cell) → is_null cell ≡ false → is_none (cell_fault 0 column cell) ≡ true → has_only_bytes cell ≡ true → cell_in column (cell_text cell) ≡ cell
 value_found column cell some fit bytes =
-    let v = value_back column.kind cell (value_of_fit column cell some fit) bytes in
+    let v = value_back (values_of column.kind) cell (value_of_fit column cell some fit) bytes in
     passed_if (bytes_eq (cell_text cell) (codes "null")) Null (value_in column.kind (cell_text cell)) v.0 ∙ v.1
   where
     passed_if : {X : Type 0} (b : Bool) (one other : X) → b ≡ false → (if b then one else other) ≡ other
@@ -170,7 +140,7 @@ cell_back column (Blob blob) fit bytes = found_back column (cell_text (Blob blob
 -- a cell that fits its column is a word
 pub cell_word : (column : Column) (cell : Cell) → is_none (cell_fault 0 column cell) ≡ true → IsWord (cell_text cell)
 cell_word column Null fit = plain_word (codes "null") refl
-cell_word column (Num z) fit = plain_word (signed_decimal z) (signed_plain z (small_of column.kind z (value_of_fit column (Num z) refl fit)))
+cell_word column (Num z) fit = plain_word (signed_decimal z) (signed_plain z (small_of (values_of column.kind) z (value_of_fit column (Num z) refl fit)))
 cell_word column (Truth true) fit = plain_word (codes "true") refl
 cell_word column (Truth false) fit = plain_word (codes "false") refl
 cell_word column (Text text) fit = text_word text

@@ -1,22 +1,21 @@
 -- Columns that are read are their words, and a table's columns.
 use Rattle.std.proofs.Common.{◌≡◌, ℕ, ◌+◌, Bool, true, false, cond, List, [], ◌∷◌, ◌++◌, take, drop, length, suc, map, refl, sym, ap, ◌∙◌, arith, add-one, subst, append_assoc, length-append}
-use Rattle.std.specs.Prelude.{◌==◌, not, Some, None, Option, is_none, is_some, option_map, bytes_eq, nat_le, nat_lt, codes, Result, Ok, find, if◌then◌else◌}
+use Rattle.std.specs.Prelude.{◌==◌, not, Some, None, Option, is_none, is_some, option_map, bytes_eq, nat_le, nat_lt, codes, Result, Ok, if◌then◌else◌}
 use Rattle.std.specs.List.{list_all, list_any, prefix_len}
-use Rattle.std.specs.Option.{option_or}
 use Rattle.std.proofs.lemmas.Bool.{eqb-true, ltb-true, le-leb, and_parts, not-true}
 use Rattle.std.proofs.lemmas.List.{append-nil}
 use Rattle.cell_model.specs.declared.column.Column.{Column}
-use Rattle.cell_model.specs.declared.kind.Kind.{Kind}
-use Rattle.cell_model.specs.Kinds.{kinds}
+use Rattle.cell_model.specs.Kinds.{has_width, values_of}
 use Rattle.cell_model.specs.Schemas.{begins_with_key, place_of_name, first_twins, most_columns}
 use Rattle.workload_spec.specs.declared.script.Cause.{Cause}
 use Rattle.workload_spec.specs.declared.script.Cause.TheVariants as cause
-use Rattle.workload_spec.specs.Valid.{is_name, are_columns}
+use Rattle.workload_spec.specs.Valid.{is_name, are_columns, is_column}
 use Rattle.workload_spec.specs.ScriptText.{kind_text, column_text}
 use Rattle.workload_spec.specs.Extents.{whole}
 use Rattle.workload_spec.specs.Grammar.{◌>>=◌, or_cause, rule, kind_of, colon, has_colon, before_colon, after_colon, column_of, columns_from}
-use Rattle.workload_laws.proofs.Results.{step, some_of, rule_of, eq_of}
-use Rattle.workload_laws.proofs.Lists.{joined, all-behind, own_names, own_names-behind, find_is, position_none, none_position}
+use Rattle.workload_laws.proofs.Results.{step, some_of, rule_of}
+use Rattle.workload_laws.proofs.Lists.{joined, all-behind, own_names, own_names-behind, position_none, none_position}
+use Rattle.workload_laws.proofs.KindNames.{kind_is}
 
 -- a word with a colon is what stands before its first, the colon, and what stands behind it
 colon_by : (b : Bool) (byte : ℕ) (bytes : List ℕ) (n : ℕ) → byte == 58 ≡ b → (b ≡ false → take n bytes ++ 58 ∷ drop (length (take n bytes) + 1) bytes ≡ bytes)
@@ -32,33 +31,6 @@ pub colon_parts : (word : List ℕ) → has_colon word ≡ true → before_colon
 colon_parts [] e = absurd cc
 colon_parts (byte ∷ bytes) e = colon_by (byte == 58) byte bytes (prefix_len (λ b. not (b == 58)) bytes) refl (λ f. colon_parts bytes (rw f at e))
 
--- a kind and its mark
-pub mark : Bool → List ℕ
-mark nullable = if nullable then codes "?" else []
-
--- A kind that is read without a mark is its word.
-kind_plain : (word : List ℕ) (o : Option Kind) (kind : Kind × Bool) → ((k : Kind) → o ≡ Some k → kind_text k ≡ word) → option_map (λ k. (k, false)) o ≡ Some kind → kind_text kind.0 ++ (if kind.1 then codes "?" else []) ≡ word
-kind_plain word None kind is e = absurd cc
-kind_plain word (Some k) kind is e = let same : (k, false) ≡ kind = cc in subst (λ (p : Kind × Bool). kind_text p.0 ++ (if p.1 then codes "?" else []) ≡ word) same (append-nil (kind_text k) ∙ is k refl)
-
--- A kind that is read with its mark for nulls is its word.
-kind_marked : (word : List ℕ) (o : Option Kind) (kind : Kind × Bool) → ((k : Kind) → o ≡ Some k → kind_text k ++ codes "?" ≡ word) → option_map (λ k. (k, true)) o ≡ Some kind → kind_text kind.0 ++ (if kind.1 then codes "?" else []) ≡ word
-kind_marked word None kind is e = absurd cc
-kind_marked word (Some k) kind is e = let same : (k, true) ≡ kind = cc in subst (λ (p : Kind × Bool). kind_text p.0 ++ (if p.1 then codes "?" else []) ≡ word) same (is k refl)
-
--- A kind that is read one way or the other is its word.
-kind_by : (word : List ℕ) (o p : Option (Kind × Bool)) (kind : Kind × Bool) → option_or o p ≡ Some kind
-    → (o ≡ Some kind → kind_text kind.0 ++ (if kind.1 then codes "?" else []) ≡ word) → (p ≡ Some kind → kind_text kind.0 ++ (if kind.1 then codes "?" else []) ≡ word)
-    → kind_text kind.0 ++ (if kind.1 then codes "?" else []) ≡ word
-kind_by word None p kind e left right = right e
-kind_by word (Some k) p kind e left right = left e
-
--- a kind that is read, with its mark for nulls, is the word
-pub kind_is : (word : List ℕ) (kind : Kind × Bool) → kind_of word ≡ Some kind → kind_text kind.0 ++ (if kind.1 then codes "?" else []) ≡ word
-kind_is word kind e = kind_by word (option_map (λ k. (k, false)) (find (λ k. bytes_eq (kind_text k) word) kinds)) (option_map (λ k. (k, true)) (find (λ k. bytes_eq (kind_text k ++ codes "?") word) kinds)) kind e
-    (kind_plain word (find (λ k. bytes_eq (kind_text k) word) kinds) kind (λ k is. eq_of (kind_text k) word (find_is (λ k. bytes_eq (kind_text k) word) kinds k is)))
-    (kind_marked word (find (λ k. bytes_eq (kind_text k ++ codes "?") word) kinds) kind (λ k is. eq_of (kind_text k ++ codes "?") word (find_is (λ k. bytes_eq (kind_text k ++ codes "?") word) kinds k is)))
-
 -- A name, a colon and a kind with its mark are joined to the word.
 column_joined : (name after kind end word : List ℕ) → kind ++ end ≡ after → name ++ 58 ∷ after ≡ word → ((name ++ 58 ∷ []) ++ kind) ++ end ≡ word
 column_joined name after kind end word behind whole = append_assoc (name ++ 58 ∷ []) kind end ∙ append_assoc name (58 ∷ []) (kind ++ end) ∙ ap (λ (text : List ℕ). name ++ 58 ∷ text) behind ∙ whole
@@ -67,6 +39,7 @@ column_joined name after kind end word behind whole = append_assoc (name ++ 58 �
 pub record Reads (columns : List Column) (word : List ℕ) (column : Column) : Type 0 where
   pub text : column_text column ≡ word
   pub named : is_name column.name ≡ true
+  pub wide : has_width (values_of column.kind) ≡ true
   pub own : list_any (λ other. bytes_eq other.name column.name) columns ≡ false
   pub room : nat_lt (length columns) most_columns ≡ true
 
@@ -75,13 +48,15 @@ pub column_is : (columns : List Column) (word : List ℕ) (column : Column) → 
 column_is columns word column marked e =
     step (rule cause.Name (is_name (before_colon word))) _ column e (λ u named e1.
     step (rule cause.Twice (is_none (place_of_name (before_colon word) columns))) _ column e1 (λ v own e2.
-    step (or_cause cause.Kind (kind_of (after_colon word))) _ column e2 (λ kind known e3.
+    step (or_cause cause.Kind (kind_of true (after_colon word))) _ column e2 (λ kind known e3.
     step (rule cause.Columns (nat_lt (length columns) most_columns)) _ column e3 (λ w room e4.
     let made : record { name = before_colon word; kind = kind.0; nullable = kind.1 } ≡ column = cc in
+    let known_kind = kind_is true (after_colon word) kind (some_of cause.Kind (kind_of true (after_colon word)) kind known) in
     subst (λ (c : Column). Reads columns word c) made (record {
       text = column_joined (before_colon word) (after_colon word) (kind_text kind.0) (if kind.1 then codes "?" else []) word
-          (kind_is (after_colon word) kind (some_of cause.Kind (kind_of (after_colon word)) kind known)) (colon_parts word marked);
+          known_kind.text (colon_parts word marked);
       named = rule_of cause.Name (is_name (before_colon word)) u named;
+      wide = known_kind.wide;
       own = position_none (λ (other : Column). bytes_eq other.name (before_colon word)) columns (rule_of cause.Twice _ v own);
       room = rule_of cause.Columns (nat_lt (length columns) most_columns) w room;
     })))))
@@ -124,12 +99,12 @@ few_behind columns column room = le-leb _ _ (omega (arith, ltb-true (length colu
 -- columns of a table and one that is read behind them are a table's
 pub columns_behind : (columns : List Column) (word : List ℕ) (column : Column) → are_columns columns ≡ true → Reads columns word column → are_columns (columns ++ column ∷ []) ≡ true
 columns_behind columns word column are reads =
-    let a = and_parts _ (list_all (λ c. is_name c.name) columns) are in
+    let a = and_parts _ (list_all is_column columns) are in
     let b = and_parts _ (is_none (first_twins 0 columns)) a.0 in
     let c = and_parts (begins_with_key columns) (nat_le (length columns) most_columns) b.0 in
     joined (joined (joined (begins_behind columns column c.0) (few_behind columns column reads.room))
     (twins_from (columns ++ column ∷ []) 0 (own_names-behind (λ (other : Column). other.name) columns column (own_from columns 0 b.1) reads.own)))
-    (all-behind (λ (other : Column). is_name other.name) columns column a.1 reads.named)
+    (all-behind is_column columns column a.1 (joined reads.named reads.wide))
 
 -- columns that are read behind others, and the words after them
 pub record ReadsAll (columns : List Column) (words : List (List ℕ)) (read : List Column × List (List ℕ)) : Type 0 where

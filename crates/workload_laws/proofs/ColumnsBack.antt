@@ -1,22 +1,22 @@
 -- Columns are read back from their words.
-use Rattle.std.proofs.Common.{◌≡◌, ℕ, ◌+◌, ◌<◌, ◌⊎◌, inl, inr, Bool, true, false, List, [], ◌∷◌, ◌++◌, drop, length, suc, map, refl, sym, ap, ◌∙◌, arith, add-one, subst, append_assoc, length-append}
-use Rattle.std.specs.Prelude.{◌&&◌, ◌||◌, ◌==◌, not, Some, is_none, bytes_eq, nat_le, nat_lt, codes, Ok, if◌then◌else◌}
+use Rattle.std.proofs.Common.{◌≡◌, ℕ, ◌+◌, ◌<◌, ◌⊎◌, inl, inr, true, false, List, [], ◌∷◌, ◌++◌, drop, length, suc, map, refl, sym, ap, ◌∙◌, arith, add-one, subst, append_assoc, length-append}
+use Rattle.std.specs.Prelude.{◌&&◌, ◌||◌, ◌==◌, not, is_none, bytes_eq, nat_le, nat_lt, codes, Ok, if◌then◌else◌}
 use Rattle.std.specs.List.{list_all, list_any, prefix_len}
 use Rattle.std.proofs.lemmas.Bool.{eqb-true, lt-ltb, leb-true, ne_eqb, and_parts, or_cases, or_right}
 use Rattle.std.proofs.lemmas.List.{append-nil}
 use Rattle.std.proofs.lemmas.List.Folds.{list_all-append}
 use Rattle.cell_model.specs.declared.column.Column.{Column}
-use Rattle.cell_model.specs.declared.kind.Kind.{Kind}
-use Rattle.cell_model.specs.declared.kind.Kind.TheVariants as kind
+use Rattle.cell_model.specs.Kinds.{has_width, values_of}
 use Rattle.cell_model.specs.Schemas.{begins_with_key, place_of_name, first_twins, most_columns}
 use Rattle.workload_spec.specs.declared.script.Cause.TheVariants as cause
-use Rattle.workload_spec.specs.Valid.{is_within, is_lower_case, is_digit, underscore, is_name_byte, is_name, are_columns}
+use Rattle.workload_spec.specs.Valid.{is_within, is_lower_case, is_digit, underscore, is_name_byte, is_name, are_columns, is_column}
 use Rattle.workload_spec.specs.ScriptText.{kind_text, column_text}
 use Rattle.workload_spec.specs.Extents.{whole}
 use Rattle.workload_spec.specs.Grammar.{◌>>=◌, or_cause, rule, kind_of, colon, has_colon, before_colon, after_colon, column_of, columns_from}
 use Rattle.workload_laws.proofs.Results.{gives, rule_back, chosen, passed}
 use Rattle.workload_laws.proofs.Lists.{joined, own_names-before, none_position}
 use Rattle.workload_laws.proofs.Columns.{own_from}
+use Rattle.workload_laws.proofs.KindNames.{kind_back, each_taken}
 use Rattle.workload_laws.proofs.Apart.{is_plain}
 
 -- a byte of a name is plain, and no colon
@@ -47,8 +47,8 @@ pub record NameBytes (name : List ℕ) : Type 0 where
   pub plain : list_all is_plain name ≡ true
   pub no_colon : list_all (λ byte. not (byte == 58)) name ≡ true
 
--- Bytes that a name may have are all plain, and none is a colon.
-rest_bytes : (name : List ℕ) → list_all is_name_byte name ≡ true → NameBytes name
+-- bytes that a name may have are all plain, and none is a colon
+pub rest_bytes : (name : List ℕ) → list_all is_name_byte name ≡ true → NameBytes name
 rest_bytes [] all = record { plain = refl; no_colon = refl }
 rest_bytes (byte ∷ bytes) all =
     let b = and_parts (is_name_byte byte) (list_all is_name_byte bytes) all in
@@ -87,31 +87,6 @@ pub has_back : (name after : List ℕ) → has_colon (name ++ colon ∷ after) �
 has_back [] after = refl
 has_back (byte ∷ bytes) after = or_right (byte == 58) (has_colon (bytes ++ colon ∷ after)) (has_back bytes after)
 
--- a kind and its mark for nulls are read back from their text
-pub kind_back : (k : Kind) (nullable : Bool) → kind_of (kind_text k ++ (if nullable then codes "?" else [])) ≡ Some (k, nullable)
-kind_back kind.I8 true = refl
-kind_back kind.I8 false = refl
-kind_back kind.I16 true = refl
-kind_back kind.I16 false = refl
-kind_back kind.I32 true = refl
-kind_back kind.I32 false = refl
-kind_back kind.I64 true = refl
-kind_back kind.I64 false = refl
-kind_back kind.U8 true = refl
-kind_back kind.U8 false = refl
-kind_back kind.U16 true = refl
-kind_back kind.U16 false = refl
-kind_back kind.U32 true = refl
-kind_back kind.U32 false = refl
-kind_back kind.U64 true = refl
-kind_back kind.U64 false = refl
-kind_back kind.Bool true = refl
-kind_back kind.Bool false = refl
-kind_back kind.Utf8 true = refl
-kind_back kind.Utf8 false = refl
-kind_back kind.Binary true = refl
-kind_back kind.Binary false = refl
-
 -- a column's word, with its colon apart
 pub column_word : (column : Column) → column_text column ≡ column.name ++ colon ∷ (kind_text column.kind ++ (if column.nullable then codes "?" else []))
 column_word column = append_assoc (column.name ++ colon ∷ []) (kind_text column.kind) (if column.nullable then codes "?" else []) ∙ append_assoc column.name (colon ∷ []) (kind_text column.kind ++ (if column.nullable then codes "?" else []))
@@ -119,6 +94,7 @@ column_word column = append_assoc (column.name ++ colon ∷ []) (kind_text colum
 -- a column that may stand behind others
 pub record MayFollow (columns : List Column) (column : Column) : Type 0 where
   pub named : is_name column.name ≡ true
+  pub wide : has_width (values_of column.kind) ≡ true
   pub own : list_any (λ other. bytes_eq other.name column.name) columns ≡ false
   pub room : nat_lt (length columns) most_columns ≡ true
 
@@ -131,19 +107,22 @@ column_back columns column may =
     gives (rule cause.Name (is_name (before_colon (column_text column)))) _ (Ok column) tt (rule_back cause.Name _ (ap is_name before ∙ may.named))
     (gives (rule cause.Twice (is_none (place_of_name (before_colon (column_text column)) columns))) _ (Ok column) tt
     (rule_back cause.Twice _ (ap (λ (name : List ℕ). is_none (place_of_name name columns)) before ∙ none_position (λ (other : Column). bytes_eq other.name column.name) columns may.own))
-    (gives (or_cause cause.Kind (kind_of (after_colon (column_text column)))) _ (Ok column) (column.kind, column.nullable) (ap (λ (word : List ℕ). or_cause cause.Kind (kind_of word)) after ∙ ap (or_cause cause.Kind) (kind_back column.kind column.nullable))
+    (gives (or_cause cause.Kind (kind_of true (after_colon (column_text column)))) _ (Ok column) (column.kind, column.nullable)
+    (ap (λ (word : List ℕ). or_cause cause.Kind (kind_of true word)) after ∙ ap (or_cause cause.Kind) (kind_back true column.kind column.nullable (each_taken column.kind) may.wide))
     (gives (rule cause.Columns (nat_lt (length columns) most_columns)) _ (Ok column) tt (rule_back cause.Columns _ may.room)
     (ap (λ (name : List ℕ). Ok (record { name = name; kind = column.kind; nullable = column.nullable })) before))))
 
 -- of a table's columns each may follow those before it
 pub may_follow : (columns : List Column) (column : Column) (more : List Column) → are_columns (columns ++ column ∷ more) ≡ true → MayFollow columns column
 may_follow columns column more are =
-    let a = and_parts (begins_with_key (columns ++ column ∷ more) && nat_le (length (columns ++ column ∷ more)) most_columns && is_none (first_twins 0 (columns ++ column ∷ more))) (list_all (λ c. is_name c.name) (columns ++ column ∷ more)) are in
+    let a = and_parts (begins_with_key (columns ++ column ∷ more) && nat_le (length (columns ++ column ∷ more)) most_columns && is_none (first_twins 0 (columns ++ column ∷ more))) (list_all is_column (columns ++ column ∷ more)) are in
     let b = and_parts (begins_with_key (columns ++ column ∷ more) && nat_le (length (columns ++ column ∷ more)) most_columns) (is_none (first_twins 0 (columns ++ column ∷ more))) a.0 in
     let c = and_parts (begins_with_key (columns ++ column ∷ more)) (nat_le (length (columns ++ column ∷ more)) most_columns) b.0 in
-    let n = and_parts (list_all (λ c. is_name c.name) columns) (list_all (λ c. is_name c.name) (column ∷ more)) (sym (list_all-append (λ (c : Column). is_name c.name) columns (column ∷ more)) ∙ a.1) in
+    let n = and_parts (list_all is_column columns) (list_all is_column (column ∷ more)) (sym (list_all-append is_column columns (column ∷ more)) ∙ a.1) in
+    let one = and_parts (is_name column.name) (has_width (values_of column.kind)) (and_parts (is_column column) (list_all is_column more) n.1).0 in
     record {
-      named = (and_parts (is_name column.name) (list_all (λ c. is_name c.name) more) n.1).0;
+      named = one.0;
+      wide = one.1;
       own = own_names-before (λ (c : Column). c.name) columns column more (own_from (columns ++ column ∷ more) 0 b.1);
       room = lt-ltb (length columns) 32 (omega (arith, leb-true (length (columns ++ column ∷ more)) 32 c.1, length-append columns (column ∷ more)));
     }

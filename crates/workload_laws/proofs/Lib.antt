@@ -1,5 +1,8 @@
 pub mod Results
 pub mod Lists
+pub mod Narrows
+pub mod KindNames
+pub mod FirstKinds
 pub mod Columns
 pub mod Tables
 pub mod Parts
@@ -18,7 +21,6 @@ pub mod TablesBack
 pub mod CommandsBack
 pub mod RoundsBack
 pub mod ScriptsBack
-pub mod Narrows
 pub mod NarrowTables
 pub mod NarrowRounds
 pub mod NarrowScripts

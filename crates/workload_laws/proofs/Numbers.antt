@@ -81,9 +81,13 @@ digits_plain (byte ∷ bytes) digits =
     let w = and_parts (nat_le 48 byte) (nat_le byte 57) d.0 in
     joined (lt-ltb 34 byte (omega (arith, leb-true 48 byte w.0))) (digits_plain bytes d.1)
 
+-- a number below 2^64 is spelled by digits
+pub decimal_digits : (n : ℕ) → n < 2 ^ 64 → are_digits (decimal n) ≡ true
+decimal_digits n small = digits_decimal own n small
+
 -- and are all plain bytes
 pub decimal_plain : (n : ℕ) → n < 2 ^ 64 → list_all is_plain (decimal n) ≡ true
-decimal_plain n small = digits_plain (decimal n) (digits_decimal own n small)
+decimal_plain n small = digits_plain (decimal n) (decimal_digits n small)
 
 -- how far the integer is from 0
 abbrev pub magnitude : ℤ → ℕ

@@ -54,8 +54,8 @@ spelled_as text_of word value found e = by (bytes_eq (text_of value) word) refl 
     by true same is = let f : value ≡ found = cc in ap text_of (sym f) ∙ eq_of (text_of value) word same
     by false same is = absurd cc
 
--- A number that is found within bounds was there, and is within them.
-within_some : (low high : ℕ) (o : Option ℕ) (n : ℕ) → option_and_then (λ value. if is_within low high value then Some value else None) o ≡ Some n → (o ≡ Some n) × (is_within low high n ≡ true)
+-- a number that is found within bounds was there, and is within them
+pub within_some : (low high : ℕ) (o : Option ℕ) (n : ℕ) → option_and_then (λ value. if is_within low high value then Some value else None) o ≡ Some n → (o ≡ Some n) × (is_within low high n ≡ true)
 within_some low high None n e = absurd cc
 within_some low high (Some v) n e = by (is_within low high v) refl e
   where

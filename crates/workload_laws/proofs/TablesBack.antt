@@ -10,12 +10,13 @@ use Rattle.cell_model.specs.declared.column.Column.{Column}
 use Rattle.cell_model.specs.declared.kind.Kind.{Kind}
 use Rattle.cell_model.specs.declared.kind.Kind.TheVariants as kind
 use Rattle.cell_model.specs.declared.table.TableDecl.{TableDecl}
+use Rattle.cell_model.specs.Kinds.{has_width, values_of}
 use Rattle.cell_model.specs.Schemas.{is_i64, is_key, begins_with_key, most_slots_of, row_bits}
 use Rattle.workload_spec.specs.declared.script.Cause.{Cause}
 use Rattle.workload_spec.specs.declared.script.Cause.TheVariants as cause
 use Rattle.workload_spec.specs.Reading.{words_of}
 use Rattle.workload_spec.specs.ScriptText.{kind_text, column_text, table_text}
-use Rattle.workload_spec.specs.Valid.{is_within, is_name, are_columns, are_slots, are_blocks, is_table, is_declared, have_own_names, least_slots, most_blocks, most_tables}
+use Rattle.workload_spec.specs.Valid.{is_within, is_name, are_columns, are_slots, are_blocks, is_table, is_declared, have_own_names, least_slots, most_blocks, most_tables, is_column}
 use Rattle.workload_spec.specs.Extents.{whole}
 use Rattle.workload_spec.specs.Grammar.{◌>>=◌, rule, word, no_word, keyword, number, key_column, columns_from, table_of, on_line, is_table_line, tables_from}
 use Rattle.workload_laws.proofs.Results.{gives, rule_back, chosen, passed, eq_of}
@@ -25,7 +26,8 @@ use Rattle.workload_laws.proofs.Tables.{table_words}
 use Rattle.workload_laws.proofs.Heads.{own_tables}
 use Rattle.workload_laws.proofs.Apart.{is_plain, IsWord, AreWords, plain_word, words_append, words_apart}
 use Rattle.workload_laws.proofs.Numbers.{keyword_back, number_back, decimal_plain}
-use Rattle.workload_laws.proofs.ColumnsBack.{name_bytes, columns_back}
+use Rattle.workload_laws.proofs.KindNames.{kind_bytes}
+use Rattle.workload_laws.proofs.ColumnsBack.{rest_bytes, name_bytes, columns_back}
 
 -- a table's parts keep their limits
 pub record TableParts (table : TableDecl) : Type 0 where
@@ -66,7 +68,7 @@ key_first (column ∷ more) begins = (more, ap (λ (c : Column). c ∷ more) (ke
 
 -- a table's columns begin with the key
 pub columns_begin : (columns : List Column) → are_columns columns ≡ true → begins_with_key columns ≡ true
-columns_begin columns are = (and_parts (begins_with_key columns) _ (and_parts _ _ (and_parts _ (list_all (λ c. is_name c.name) columns) are).0).0).0
+columns_begin columns are = (and_parts (begins_with_key columns) _ (and_parts _ _ (and_parts _ (list_all is_column columns) are).0).0).0
 
 -- a table read back behind others
 abbrev pub IsReadBack : List TableDecl → TableDecl → Type 0
@@ -127,37 +129,24 @@ table_back tables table own is =
 plain_append : (a b : List ℕ) → list_all is_plain a ≡ true → list_all is_plain b ≡ true → list_all is_plain (a ++ b) ≡ true
 plain_append a b pa pb = list_all-append is_plain a b ∙ joined pa pb
 
--- The text of each kind is of plain bytes.
-kind_plain : (k : Kind) → list_all is_plain (kind_text k) ≡ true
-kind_plain kind.I8 = refl
-kind_plain kind.I16 = refl
-kind_plain kind.I32 = refl
-kind_plain kind.I64 = refl
-kind_plain kind.U8 = refl
-kind_plain kind.U16 = refl
-kind_plain kind.U32 = refl
-kind_plain kind.U64 = refl
-kind_plain kind.Bool = refl
-kind_plain kind.Utf8 = refl
-kind_plain kind.Binary = refl
-
 -- The mark for nulls, if there is one, is of plain bytes.
 mark_plain : (nullable : Bool) → list_all is_plain (if nullable then codes "?" else []) ≡ true
 mark_plain true = refl
 mark_plain false = refl
 
 -- The text of a column with a name is of plain bytes.
-column_plain : (column : Column) → is_name column.name ≡ true → list_all is_plain (column_text column) ≡ true
-column_plain column named =
+column_plain : (column : Column) → is_column column ≡ true → list_all is_plain (column_text column) ≡ true
+column_plain column is =
+    let parts = and_parts (is_name column.name) (has_width (values_of column.kind)) is in
     plain_append ((column.name ++ codes ":") ++ kind_text column.kind) (if column.nullable then codes "?" else [])
-    (plain_append (column.name ++ codes ":") (kind_text column.kind) (plain_append column.name (codes ":") (name_bytes column.name named).plain refl) (kind_plain column.kind))
+    (plain_append (column.name ++ codes ":") (kind_text column.kind) (plain_append column.name (codes ":") (name_bytes column.name parts.0).plain refl) (rest_bytes (kind_text column.kind) (kind_bytes column.kind parts.1)).plain)
     (mark_plain column.nullable)
 
 -- The texts of columns with names are words.
-columns_words : (columns : List Column) → list_all (λ column. is_name column.name) columns ≡ true → AreWords (map column_text columns)
+columns_words : (columns : List Column) → list_all is_column columns ≡ true → AreWords (map column_text columns)
 columns_words [] named = tt
 columns_words (column ∷ columns) named =
-    let n = and_parts (is_name column.name) (list_all (λ c. is_name c.name) columns) named in
+    let n = and_parts (is_column column) (list_all is_column columns) named in
     (plain_word (column_text column) (column_plain column n.0), columns_words columns n.1)
 
 -- a name is a word
@@ -176,7 +165,7 @@ table_are_words table is =
       (
         name_word table.name parts.named,
         words_append (map column_text table.schema) (codes "slots" ∷ decimal table.slots ∷ codes "blocks" ∷ decimal table.blocks ∷ [])
-            (columns_words table.schema (and_parts _ (list_all (λ c. is_name c.name) table.schema) parts.columns).1) (
+            (columns_words table.schema (and_parts _ (list_all is_column table.schema) parts.columns).1) (
               plain_word (codes "slots") refl,
               (
                 number_word table.slots (small_slots table.slots (8 * (2 ^ 20 / row_bits table.schema)) (within_high least_slots (most_slots_of table.schema) table.slots parts.slots)),

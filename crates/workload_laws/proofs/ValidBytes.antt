@@ -9,7 +9,8 @@ use Rattle.cell_model.specs.declared.column.Column.{Column}
 use Rattle.cell_model.specs.declared.row.RowFault.TheVariants.{RangeAt, LongAt}
 use Rattle.cell_model.specs.declared.table.TableDecl.{TableDecl}
 use Rattle.cell_model.specs.Rows.{cell_fault, first_fault, fits}
-use Rattle.cell_model.specs.Values.{are_bytes, is_binary_kind, most_bytes}
+use Rattle.cell_model.specs.Kinds.{values_of, takes_bytes}
+use Rattle.cell_model.specs.Values.{are_bytes, most_bytes_of}
 use Rattle.workload_spec.specs.declared.command.Command.{Command}
 use Rattle.workload_spec.specs.declared.command.Command.TheVariants as command
 use Rattle.workload_spec.specs.declared.script.Line.{Line}
@@ -36,7 +37,7 @@ cell_bytes at column (Num number) fit = refl
 cell_bytes at column (Truth truth) fit = refl
 cell_bytes at column (Text text) fit = refl
 cell_bytes at column (Blob bytes) fit =
-    value_bytes at (is_binary_kind column.kind) (are_bytes bytes) (nat_lt most_bytes (length bytes)) fit
+    value_bytes at (takes_bytes (values_of column.kind) (length bytes)) (are_bytes bytes) (nat_lt (most_bytes_of column.kind) (length bytes)) fit
 
 -- Cells that each fit their columns have only bytes.
 cells_bytes : (at : ℕ) (columns : List Column) (cells : List Cell) → length cells ≡ length columns

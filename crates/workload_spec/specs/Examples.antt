@@ -1,7 +1,7 @@
 -- Worked examples of texts and faults, as facts.
 use Rattle.std.specs.Prelude.{◌≡◌, ℕ, ◌-◌, ◌^◌, true, false, List, [], ◌∷◌, ◌++◌, map, flat_map}
-use Rattle.std.specs.Prelude.{replicate, pos, negsuc, codes, decimal, option_map, None, Some, Ok}
-use Rattle.std.specs.Prelude.{Err}
+use Rattle.std.specs.Prelude.{replicate, drop, pos, negsuc, codes, decimal, option_map, None, Some}
+use Rattle.std.specs.Prelude.{Result, Ok, Err}
 use Rattle.std.specs.List.{range_with_len}
 use Rattle.std.specs.Result.{result_ok}
 use Rattle.cell_model.specs.declared.cell.Cell.TheVariants.{Null, Num, Truth, Text, Blob}
@@ -19,13 +19,14 @@ use Rattle.workload_spec.specs.declared.reply.Who.TheVariants.{Session, Worker}
 use Rattle.workload_spec.specs.declared.reply.Said.{Said}
 use Rattle.workload_spec.specs.declared.reply.Said.TheVariants as said
 use Rattle.workload_spec.specs.declared.reply.SealCause.TheVariants.{Head}
-use Rattle.workload_spec.specs.Grammar.{key_column, read_with, script_of, checked_of, refused_text}
-use Rattle.workload_spec.specs.Reading.{cell_of, integer_of, words_of}
+use Rattle.workload_spec.specs.Grammar.{key_column, kind_of, Fault, script_behind, script_of}
+use Rattle.workload_spec.specs.Grammar.{checked_of, refused_text}
+use Rattle.workload_spec.specs.Reading.{cell_of, integer_of, parts, words_of}
 use Rattle.workload_spec.specs.ReplyText.{said_words, replies_text}
 use Rattle.workload_spec.specs.ScriptText.{line_text, script_text}
 use Rattle.workload_spec.specs.Valid.{is_valid}
-use Rattle.workload_spec.specs.Extents.{whole, runs_within, is_extent}
-use Rattle.workload_spec.specs.Words.{cell_text, spaced, lines_text}
+use Rattle.workload_spec.specs.Extents.{extent_of, whole, runs_within, is_extent}
+use Rattle.workload_spec.specs.Words.{cell_text, line_feed, spaced, lines_text}
 
 -- `v:utf8?`
 abbrev pub text_column : Column
@@ -139,7 +140,7 @@ ScriptIsRead = script_of example_text ≡ Ok example_script
 -- that script, and it with one field changed
 abbrev pub ScriptsAreJudged : Type 0
 ScriptsAreJudged = map is_valid
-    (example_script ∷ record example_script { version = 2 } ∷ record example_script
+    (example_script ∷ record example_script { version = 3 } ∷ record example_script
     { tables = [] }
     ∷ record example_script { tables = table_a ∷ table_a ∷ [] } ∷ record example_script
     { tables = record table_a { slots = 12 } ∷ [] }
@@ -173,9 +174,13 @@ abbrev pub ExtentsAreJudged : Type 0
 ExtentsAreJudged = map (λ extent. runs_within extent worked_script) extents
     ≡ true ∷ replicate 7 false
 
+-- a workload of the first version within an extent, read from its text behind the first line
+abbrev pub read_within : Extent → List ℕ → Result Script Fault
+read_within extent text = script_behind 1 extent (drop 1 (parts line_feed text))
+
 -- what passes an extent is refused where it stands
 abbrev pub ExtentsAreRead : Type 0
-ExtentsAreRead = map (λ extent. read_with extent worked_text) extents
+ExtentsAreRead = map (λ extent. read_within extent worked_text) extents
     ≡ Ok worked_script ∷ map (λ (told : ℕ × Cause). Err (record { line = told.0; cause = told.1 }))
     ((2, cause.Table) ∷ (2, cause.Columns) ∷ (3, cause.Sessions) ∷ (4, cause.Workers)
     ∷ (4, cause.Workers) ∷ (8, cause.Session) ∷ (10, cause.Command) ∷ [])
@@ -185,10 +190,134 @@ abbrev pub two_faults : List ℕ
 two_faults = lines_text (head ++ codes "1 scan a" ∷ codes "3 begin" ∷ [])
 
 abbrev pub FirstFaultStands : Type 0
-FirstFaultStands = map (λ extent. read_with extent two_faults)
+FirstFaultStands = map (λ extent. read_within extent two_faults)
     (whole ∷ record whole { commands = record whole.commands { scan = false } } ∷ [])
     ≡ map (λ (told : ℕ × Cause). Err (record { line = told.0; cause = told.1 }))
     ((7, cause.Session) ∷ (6, cause.Command) ∷ [])
+
+-- the first version takes these bounds, all commands, and no later kinds
+abbrev pub FirstVersionIsTaken : Type 0
+FirstVersionIsTaken = extent_of 1 ≡ record {
+  tables = 16;
+  columns = 32;
+  sessions = 64;
+  workers = 16;
+  turns = 100;
+  parts_rounds = true;
+  later_kinds = false;
+  commands = record {
+    begin = true;
+    get = true;
+    scan = true;
+    insert = true;
+    update = true;
+    delete = true;
+    commit = true;
+    abort = true;
+    observe = true;
+    prune = true;
+    compact = true;
+    seal = true;
+    gather = true;
+    export = true;
+  };
+}
+
+-- the kinds of the first version by their names, and those that may be null
+abbrev pub FirstKindsAreRead : Type 0
+FirstKindsAreRead = map (kind_of false)
+    (codes "i8" ∷ codes "i16" ∷ codes "i32" ∷ codes "i64" ∷ codes "u8" ∷ codes "u16" ∷ codes "u32"
+    ∷ codes "u64" ∷ codes "bool" ∷ codes "utf8" ∷ codes "binary?" ∷ codes "binary??" ∷ codes "?"
+    ∷ [] ∷ codes "I8" ∷ [])
+    ≡ map (λ kind. Some (kind, false))
+    (kind.I8 ∷ kind.I16 ∷ kind.I32 ∷ kind.I64 ∷ kind.U8 ∷ kind.U16 ∷ kind.U32 ∷ kind.U64
+    ∷ kind.Bool ∷ kind.Utf8 ∷ []) ++ Some (kind.Binary, true) ∷ replicate 4 None
+
+-- the kinds of the second version by their names, and those that may be null
+abbrev pub LaterKindsAreRead : Type 0
+LaterKindsAreRead = map (kind_of true)
+    (codes "large_utf8" ∷ codes "large_binary?" ∷ codes "date" ∷ codes "fixed1" ∷ codes
+    "fixed1024?" ∷ codes "i8" ∷ [])
+    ≡ Some (kind.LargeUtf8, false) ∷ Some (kind.LargeBinary, true) ∷ Some (kind.Date, false)
+    ∷ Some (kind.Fixed 1, false) ∷ Some (kind.Fixed 1024, true) ∷ Some (kind.I8, false) ∷ []
+
+-- other spellings name none
+abbrev pub NoLaterKinds : Type 0
+NoLaterKinds = map (kind_of true)
+    (codes "fixed" ∷ codes "fixed0" ∷ codes "fixed02" ∷ codes "fixed1025" ∷ codes "fixed-1" ∷ codes
+    "Fixed1" ∷ codes "largeutf8" ∷ codes "large_utf8??" ∷ codes "dates" ∷ [])
+    ≡ replicate 9 None
+
+-- the first version has none of them
+abbrev pub LaterKindsAreLater : Type 0
+LaterKindsAreLater = map (kind_of false)
+    (codes "large_utf8" ∷ codes "large_binary?" ∷ codes "date" ∷ codes "fixed1" ∷ [])
+    ≡ replicate 4 None
+
+-- `d:date` and `h:fixed2?`
+abbrev pub date_column : Column
+date_column = record { name = codes "d"; kind = kind.Date; nullable = false }
+
+abbrev pub fixed_column : Column
+fixed_column = record { name = codes "h"; kind = kind.Fixed 2; nullable = true }
+
+-- a date is a number of 32 bits, and a fixed value has just its bytes
+abbrev pub DatesAreRead : Type 0
+DatesAreRead = map (cell_of date_column)
+    (codes "19000" ∷ codes "-2147483648" ∷ codes "2147483648" ∷ codes "null" ∷ [])
+    ≡ Some (Num (pos 19000)) ∷ Some (Num (negsuc (2 ^ 31 - 1))) ∷ None ∷ None ∷ []
+
+abbrev pub FixedValuesAreRead : Type 0
+FixedValuesAreRead = map (cell_of fixed_column)
+    (codes "x0aff" ∷ codes "null" ∷ codes "x0a" ∷ codes "x" ∷ codes "x0aff00" ∷ codes "\"ab\"" ∷ [])
+    ≡ Some (Blob (0x0a ∷ 0xff ∷ [])) ∷ Some Null ∷ replicate 4 None
+
+-- the table f with `key:i64 d:date h:fixed2?`
+abbrev pub table_f : TableDecl
+table_f = record {
+  name = codes "f";
+  schema = key_column ∷ date_column ∷ fixed_column ∷ [];
+  slots = 8;
+  blocks = 1;
+}
+
+abbrev pub later_script : Script
+later_script = record {
+  version = 2;
+  tables = table_f ∷ [];
+  sessions = 1;
+  workers = 0;
+  turns = 0;
+  rounds = (record {
+    session = 1;
+    command = command.Insert 0 (Num (pos 1) ∷ Num (negsuc 0) ∷ Blob (0 ∷ 1 ∷ []) ∷ []);
+  } ∷ []) ∷ [];
+}
+
+-- the head of a workload of a version with that table, and lines behind it
+abbrev pub later_lines : List ℕ → List (List ℕ) → List (List ℕ)
+later_lines store lines = store ∷ codes "table f key:i64 d:date h:fixed2? slots 8 blocks 1" ∷ codes
+    "sessions 1" ∷ codes "workers 0 0" ∷ codes "go" ∷ lines
+
+abbrev pub later_text : List ℕ
+later_text = lines_text (later_lines (codes "store 2") (codes "1 insert f 1 -1 x0001" ∷ []))
+
+abbrev pub LaterScriptIsPrinted : Type 0
+LaterScriptIsPrinted = script_text later_script ≡ later_text
+
+abbrev pub LaterScriptIsRead : Type 0
+LaterScriptIsRead = script_of later_text ≡ Ok later_script
+
+-- that workload is one of the second version alone, with a width that there is
+abbrev pub VersionsAreJudged : Type 0
+VersionsAreJudged = map is_valid
+    (later_script ∷ record later_script { version = 1 } ∷ record later_script { version = 3 }
+    ∷ record later_script {
+      tables = record table_f {
+        schema = key_column ∷ date_column ∷ record fixed_column { kind = kind.Fixed 0 } ∷ [];
+      } ∷ [];
+    } ∷ record example_script { version = 2 } ∷ [])
+    ≡ true ∷ replicate 3 false ++ true ∷ []
 
 -- the whole format and one of a column are extents of it, and one without a column or with a bound
 -- past the whole's is none
@@ -219,6 +348,14 @@ numbered_table number = codes "table t" ++ decimal number ++ codes " key:i64 slo
 abbrev pub HeadsAreRefused : Type 0
 HeadsAreRefused = AreRefused (
     ([], 1, cause.Version) ∷ (codes "store 9" ∷ [], 1, cause.Version)
+    ∷ (codes "store 02" ∷ [], 1, cause.Version)
+    ∷ (later_lines (codes "store 1") [], 2, cause.Kind)
+    ∷ (later_lines (codes "store 2") (codes "1 begin checked" ∷ []), 6, cause.Command)
+    ∷ (later_lines (codes "store 2") (codes "1 range f 1 2" ∷ []), 6, cause.Command)
+    ∷ (later_lines (codes "store 2") (codes "1 total f d 1 2" ∷ []), 6, cause.Command)
+    ∷ (later_lines (codes "store 2") (codes "1 gather dict f 0" ∷ []), 6, cause.Command)
+    ∷ (later_lines (codes "store 2") (codes "1 export dict f" ∷ []), 6, cause.Command)
+    ∷ (later_lines (codes "store 2") (codes "1 insert f 1 1 x0a" ∷ []), 6, cause.Cell)
     ∷ (codes "store 1" ∷ [], 2, cause.Table)
     ∷ (codes "store 1" ∷ codes "tables" ∷ [], 2, cause.Table)
     ∷ (behind_table (codes "table a key:i64 slots 8 blocks 1" ∷ []), 3, cause.Twice)

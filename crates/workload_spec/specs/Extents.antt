@@ -1,24 +1,28 @@
--- How much of the workload format is taken: all of it, and which workloads run within an extent.
-use Rattle.std.specs.Prelude.{◌≡◌, Bool, true, ◌&&◌, ◌||◌, nat_le, length}
+-- How much of the workload format is taken: what each version takes, and which workloads run within
+-- an extent.
+use Rattle.std.specs.Prelude.{◌≡◌, ℕ, Bool, true, ◌&&◌, ◌||◌, nat_le, List, length}
 use Rattle.std.specs.List.{list_all}
 use Rattle.cell_model.specs.Schemas.{most_columns}
+use Rattle.cell_model.specs.declared.column.Column.{Column}
 use Rattle.workload_spec.specs.declared.command.Command.{Command}
 use Rattle.workload_spec.specs.declared.command.Command.TheVariants as command
 use Rattle.workload_spec.specs.declared.extent.Commands.{Commands}
 use Rattle.workload_spec.specs.declared.extent.Extent.{Extent}
 use Rattle.workload_spec.specs.declared.script.Script.{Script}
 use Rattle.workload_spec.specs.Valid.{is_within, most_tables, most_sessions, most_workers}
-use Rattle.workload_spec.specs.Valid.{most_turns, all_lines}
+use Rattle.workload_spec.specs.Valid.{most_turns, all_lines, takes_later_kinds, are_taken_kinds}
 
--- the whole format
-abbrev pub whole : Extent
-whole = record {
+-- How much each version takes: the same tables, sessions, workers and commands, and from the second
+-- on the later kinds.
+abbrev pub extent_of : ℕ → Extent
+extent_of version = record {
   tables = most_tables;
   columns = most_columns;
   sessions = most_sessions;
   workers = most_workers;
   turns = most_turns;
   parts_rounds = true;
+  later_kinds = takes_later_kinds version;
   commands = record {
     begin = true;
     get = true;
@@ -37,6 +41,10 @@ whole = record {
   };
 }
 
+-- the whole format, which the second version takes
+abbrev pub whole : Extent
+whole = extent_of 2
+
 -- the command is one of those taken
 abbrev pub is_taken : Commands → Command → Bool
 is_taken taken command.Begin = taken.begin
@@ -54,11 +62,16 @@ is_taken taken (command.Seal table block) = taken.seal
 is_taken taken (command.Gather table block) = taken.gather
 is_taken taken (command.Export table) = taken.export
 
+-- a table's columns are no more than the extent takes, and of kinds that it takes
+abbrev pub are_within : Extent → List Column → Bool
+are_within extent columns = nat_le (length columns) extent.columns
+    && are_taken_kinds extent.later_kinds columns
+
 -- The script runs within the extent: it has no more tables, columns, sessions, workers and turns,
--- one round where none are parted, and only commands that are taken.
+-- one round where none are parted, and only kinds and commands that are taken.
 abbrev pub runs_within : Extent → Script → Bool
 runs_within extent script = nat_le (length script.tables) extent.tables
-    && list_all (λ table. nat_le (length table.schema) extent.columns) script.tables
+    && list_all (λ table. are_within extent table.schema) script.tables
     && nat_le script.sessions extent.sessions && nat_le script.workers extent.workers
     && nat_le script.turns extent.turns
     && (extent.parts_rounds || nat_le (length script.rounds) 1)

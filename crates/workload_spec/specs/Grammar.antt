@@ -1,11 +1,12 @@
 -- Which bytes are a workload, line by line, and else the first line that is none, with the first
--- word or rule on it that fails. An extent says how much of the format is taken; six rules look at
--- it: the room for a column and for a table, the bounds of `sessions` and `workers`, the test for a
--- line `--`, and the form of a command.
+-- word or rule on it that fails. An extent says how much of the format is taken, which the version
+-- tells; seven rules look at it: the kind of a column, the room for a column and for a table, the
+-- bounds of `sessions` and `workers`, the test for a line `--`, and the form of a command.
 use Rattle.std.specs.Prelude.{ℕ, ◌+◌, ◌-◌, ◌%◌, Bool, true, false, ◌&&◌, ◌||◌, not, ◌==◌, nat_lt}
 use Rattle.std.specs.Prelude.{List, [], ◌∷◌, ◌++◌, ℤ, length, take, drop, find, position}
-use Rattle.std.specs.Prelude.{take_while, Option, None, Some, option_map, is_none, slice_get}
-use Rattle.std.specs.Prelude.{bytes_eq, codes, decimal, Result, Ok, Err}
+use Rattle.std.specs.Prelude.{take_while, Option, None, Some, option_map, option_and_then, is_none}
+use Rattle.std.specs.Prelude.{slice_get, bytes_eq, codes, decimal, Result, Ok, Err}
+use Rattle.std.specs.Prelude.{if◌then◌else◌}
 use Rattle.std.specs.List.{list_any, join_with_byte}
 use Rattle.std.specs.Option.{option_map_or, option_or}
 use Rattle.cell_model.specs.declared.cell.Cell.{Cell}
@@ -24,12 +25,12 @@ use Rattle.workload_spec.specs.declared.extent.Extent.{Extent}
 use Rattle.workload_spec.specs.declared.extent.Commands.{Commands}
 use Rattle.workload_spec.specs.declared.script.Line.{Line}
 use Rattle.workload_spec.specs.declared.script.Script.{Script}
-use Rattle.workload_spec.specs.Extents.{whole}
+use Rattle.workload_spec.specs.Extents.{extent_of}
 use Rattle.workload_spec.specs.Reading.{onto_first, parts, words_of, natural_of, natural_within}
 use Rattle.workload_spec.specs.Reading.{integer_of, cell_of}
 use Rattle.workload_spec.specs.ScriptText.{kind_text}
 use Rattle.workload_spec.specs.Valid.{most_blocks, least_slots, is_name, is_declared, is_key_number}
-use Rattle.workload_spec.specs.Valid.{is_block_of, is_export}
+use Rattle.workload_spec.specs.Valid.{is_block_of, is_export, is_taken_kind}
 use Rattle.workload_spec.specs.Words.{line_feed, spaced, lines_text}
 
 -- what is read, and then what is read with it; the first failure stands
@@ -74,12 +75,35 @@ number cause low high words = do
 
 -- Table lines.
 
+-- the kind of values of so many bytes each that the name tells: `fixed` and their number
+abbrev pub fixed_named : List ℕ → Option Kind
+fixed_named name = if bytes_eq (take 5 name) (codes "fixed")
+    then option_map kind.Fixed (natural_within 1 1024 (drop 5 name)) else None
+
+-- the kind of this name
+abbrev pub kind_named : List ℕ → Option Kind
+kind_named name = option_or (find (λ kind. bytes_eq (kind_text kind) name) kinds) (fixed_named name)
+
+-- the same, where it is one of those that are taken, the later ones or not
+abbrev pub taken_kind : Bool → List ℕ → Option Kind
+taken_kind later name = option_and_then
+    (λ kind. if is_taken_kind later kind then Some kind else None) (kind_named name)
+
+-- what ends the word of a column that may have nulls
+abbrev pub question_mark : ℕ
+question_mark = 63
+
+-- what stands before the question mark that ends the word, where one does
+abbrev pub before_mark : List ℕ → Option (List ℕ)
+before_mark [] = None
+before_mark (byte ∷ []) = if byte == question_mark then Some [] else None
+before_mark (byte ∷ next ∷ bytes) = option_map (λ front. byte ∷ front) (before_mark (next ∷ bytes))
+
 -- the kind that the word names, and whether a question mark follows its name
-abbrev pub kind_of : List ℕ → Option (Kind × Bool)
-kind_of word = option_or
-    (option_map (λ kind. (kind, false)) (find (λ kind. bytes_eq (kind_text kind) word) kinds))
-    (option_map (λ kind. (kind, true))
-    (find (λ kind. bytes_eq (kind_text kind ++ codes "?") word) kinds))
+abbrev pub kind_of : Bool → List ℕ → Option (Kind × Bool)
+kind_of later word = option_map_or
+    (λ name. option_map (λ kind. (kind, true)) (taken_kind later name)) (before_mark word)
+    (option_map (λ kind. (kind, false)) (taken_kind later word))
 
 -- what parts a column's name from its kind
 abbrev pub colon : ℕ
@@ -101,7 +125,7 @@ abbrev pub column_of : Extent → List Column → List ℕ → Result Column Cau
 column_of extent columns word = do
   named ← rule cause.Name (is_name (before_colon word))
   own ← rule cause.Twice (is_none (place_of_name (before_colon word) columns))
-  kind ← or_cause cause.Kind (kind_of (after_colon word))
+  kind ← or_cause cause.Kind (kind_of extent.later_kinds (after_colon word))
   room ← rule cause.Columns (nat_lt (length columns) extent.columns)
   Ok (record { name = before_colon word; kind = kind.0; nullable = kind.1 })
 
@@ -316,8 +340,8 @@ rounds_from extent tables sessions at exported (line ∷ next ∷ rest) = elim
       | true ↦ rounds_from extent tables sessions (at + 1) exported (next ∷ rest) >>= λ rounds. Ok
           ([] ∷ rounds)
       | false ↦ on_line at (line_of extent tables sessions exported (words_of line)) >>= λ read.
-          rounds_from extent tables sessions (at + 1) (exported || is_export read.command) (next ∷ rest)
-          >>= λ rounds. Ok (onto_first read rounds)
+          rounds_from extent tables sessions (at + 1) (exported || is_export read.command)
+          (next ∷ rest) >>= λ rounds. Ok (onto_first read rounds)
     ]
 
 -- how many sessions there are
@@ -337,15 +361,19 @@ workers_of extent words = do
   end ← no_word cause.Workers turns.1
   Ok (workers.0, turns.0)
 
--- The workload that the lines are: `store 1`, the tables, the sessions, the workers with their
--- turns, `go`, and the rounds.
-abbrev pub script_in : Extent → List (List ℕ) → Result Script Fault
-script_in extent all = do
-  store ← next_line 1 cause.Version all
-  version ← on_line 1 (rule cause.Version (bytes_eq store.0 (codes "store 1")))
-  first ← next_line 2 cause.Table store.1
+-- the version that the first line names: it is `store 1` or `store 2`
+abbrev pub version_of : List ℕ → Option ℕ
+version_of line = if bytes_eq line (codes "store 1") then Some 1
+    else if bytes_eq line (codes "store 2") then Some 2
+    else None
+
+-- The workload of a version, within an extent, that the lines behind the first are: the tables, the
+-- sessions, the workers with their turns, `go`, and the rounds.
+abbrev pub script_behind : ℕ → Extent → List (List ℕ) → Result Script Fault
+script_behind version extent all = do
+  first ← next_line 2 cause.Table all
   begins ← on_line 2 (rule cause.Table (is_table_line first.0))
-  tables ← tables_from extent 2 [] store.1
+  tables ← tables_from extent 2 [] all
   let behind = length tables.0 + 2
   sessions_line ← next_line behind cause.Sessions tables.1
   sessions ← on_line behind (sessions_of extent (words_of sessions_line.0))
@@ -355,7 +383,7 @@ script_in extent all = do
   goes ← on_line (behind + 2) (rule cause.Go (bytes_eq go.0 (codes "go")))
   rounds ← rounds_from extent tables.0 sessions (behind + 3) false go.1
   Ok (record {
-    version = 1;
+    version = version;
     tables = tables.0;
     sessions = sessions;
     workers = workers.0;
@@ -363,14 +391,16 @@ script_in extent all = do
     rounds = rounds;
   })
 
--- The workload within an extent that the bytes are, or the first line that is none of one, and its
--- cause.
-abbrev pub read_with : Extent → List ℕ → Result Script Fault
-read_with extent bytes = script_in extent (parts line_feed bytes)
+-- The workload that the lines are: its version, and behind it what that takes.
+abbrev pub script_in : List (List ℕ) → Result Script Fault
+script_in all = do
+  store ← next_line 1 cause.Version all
+  version ← on_line 1 (or_cause cause.Version (version_of store.0))
+  script_behind version (extent_of version) store.1
 
--- the same of the whole format
+-- The workload that the bytes are, or the first line that is none of one, and its cause.
 abbrev pub script_of : List ℕ → Result Script Fault
-script_of bytes = read_with whole bytes
+script_of bytes = script_in (parts line_feed bytes)
 
 -- A workload and the output behind it, which a line `====` parts: the workload ends before that
 -- line.
@@ -384,20 +414,14 @@ place_of_parting all = position (λ line. bytes_eq line parting) (take (length a
 
 -- the workload before a parting and the bytes behind it; without one, the workload's fault or that
 -- the parting is wanting
-abbrev pub checked_in : Extent → List (List ℕ) → Option ℕ → Result (Script × List ℕ) Fault
-checked_in extent all (Some place) = do
-  script ← script_in extent (take place all ++ [] ∷ [])
+abbrev pub checked_in : List (List ℕ) → Option ℕ → Result (Script × List ℕ) Fault
+checked_in all (Some place) = do
+  script ← script_in (take place all ++ [] ∷ [])
   Ok (script, join_with_byte line_feed (drop (place + 1) all))
-checked_in extent all None = do
-  script ← script_in extent all
+checked_in all None = do
+  script ← script_in all
   on_line (length all) (Err cause.Parting)
 
--- The workload within an extent and the output that the bytes are, or the first line that is none,
--- and its cause.
-abbrev pub checked_with : Extent → List ℕ → Result (Script × List ℕ) Fault
-checked_with extent bytes = checked_in extent (parts line_feed bytes)
-    (place_of_parting (parts line_feed bytes))
-
--- the same of the whole format
+-- The workload and the output that the bytes are, or the first line that is none, and its cause.
 abbrev pub checked_of : List ℕ → Result (Script × List ℕ) Fault
-checked_of bytes = checked_with whole bytes
+checked_of bytes = checked_in (parts line_feed bytes) (place_of_parting (parts line_feed bytes))

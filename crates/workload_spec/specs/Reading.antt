@@ -10,7 +10,10 @@ use Rattle.std.specs.Option.{option_map_or}
 use Rattle.cell_model.specs.declared.cell.Cell.{Cell}
 use Rattle.cell_model.specs.declared.cell.Cell.TheVariants.{Null, Num, Truth, Text, Blob}
 use Rattle.cell_model.specs.declared.kind.Kind.{Kind}
-use Rattle.cell_model.specs.Kinds.{Values, signed, unsigned, truths, texts, blobs, values_of}
+use Rattle.cell_model.specs.Kinds.{values_of}
+use Rattle.cell_model.specs.declared.values.Values.{Values}
+use Rattle.cell_model.specs.declared.values.Values.TheVariants.{Signed, Unsigned, Truths}
+use Rattle.cell_model.specs.declared.values.Values.TheVariants.{Texts, Blobs, Strips}
 use Rattle.cell_model.specs.declared.column.Column.{Column}
 use Rattle.cell_model.specs.Rows.{cell_fault}
 use Rattle.workload_spec.specs.Words.{space, quote, backslash, cell_text}
@@ -150,11 +153,12 @@ blob_in (mark ∷ digits) = bytes_of_digits digits
 
 -- the value of a sort that a word would stand for
 abbrev pub value_among : Values → List ℕ → Cell
-value_among (signed width) word = Num (integer_in word)
-value_among (unsigned width) word = Num (integer_in word)
-value_among truths word = Truth (bytes_eq word (codes "true"))
-value_among texts word = Text (text_in word)
-value_among blobs word = Blob (blob_in word)
+value_among (Signed width) word = Num (integer_in word)
+value_among (Unsigned width) word = Num (integer_in word)
+value_among Truths word = Truth (bytes_eq word (codes "true"))
+value_among (Texts width) word = Text (text_in word)
+value_among (Blobs width) word = Blob (blob_in word)
+value_among (Strips bytes) word = Blob (blob_in word)
 
 -- the value of a kind that a word would stand for
 abbrev pub value_in : Kind → List ℕ → Cell

@@ -25,6 +25,10 @@ kind_text kind.U64 = codes "u64"
 kind_text kind.Bool = codes "bool"
 kind_text kind.Utf8 = codes "utf8"
 kind_text kind.Binary = codes "binary"
+kind_text kind.LargeUtf8 = codes "large_utf8"
+kind_text kind.LargeBinary = codes "large_binary"
+kind_text (kind.Fixed bytes) = codes "fixed" ++ decimal bytes
+kind_text kind.Date = codes "date"
 
 -- a column: its name, a colon, its kind, and a question mark where it is nullable
 abbrev pub column_text : Column → List ℕ

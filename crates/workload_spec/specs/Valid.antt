@@ -7,9 +7,11 @@ use Rattle.std.specs.Option.{option_map_or}
 use Rattle.cell_model.specs.declared.cell.Cell.{Cell}
 use Rattle.cell_model.specs.declared.column.Column.{Column}
 use Rattle.cell_model.specs.declared.table.TableDecl.{TableDecl}
+use Rattle.cell_model.specs.Kinds.{has_width, values_of}
 use Rattle.cell_model.specs.Rows.{fits}
 use Rattle.cell_model.specs.Values.{is_integer_of}
-use Rattle.cell_model.specs.declared.kind.Kind.TheVariants.{I64}
+use Rattle.cell_model.specs.declared.kind.Kind.{Kind}
+use Rattle.cell_model.specs.declared.kind.Kind.TheVariants as kind
 use Rattle.cell_model.specs.Schemas.{begins_with_key, first_twins, most_columns, most_slots_of}
 use Rattle.workload_spec.specs.declared.command.Command.{Command}
 use Rattle.workload_spec.specs.declared.command.Command.TheVariants as command
@@ -71,10 +73,40 @@ are_slots columns slots = is_within least_slots (most_slots_of columns) slots &&
 abbrev pub are_blocks : ℕ → Bool
 are_blocks blocks = is_within 1 most_blocks blocks
 
--- The columns are a table's: the key first, at most 32, names that are names and differ.
+-- a column's name is one, and its values have a width that there is
+abbrev pub is_column : Column → Bool
+is_column column = is_name column.name && has_width (values_of column.kind)
+
+-- The columns are a table's: the key first, at most 32, each a column, and names that differ.
 abbrev pub are_columns : List Column → Bool
 are_columns columns = begins_with_key columns && nat_le (length columns) most_columns
-    && is_none (first_twins 0 columns) && list_all (λ column. is_name column.name) columns
+    && is_none (first_twins 0 columns) && list_all is_column columns
+
+-- the kind came with the second version of the format
+abbrev pub is_later : Kind → Bool
+is_later kind.I8 = false
+is_later kind.I16 = false
+is_later kind.I32 = false
+is_later kind.I64 = false
+is_later kind.U8 = false
+is_later kind.U16 = false
+is_later kind.U32 = false
+is_later kind.U64 = false
+is_later kind.Bool = false
+is_later kind.Utf8 = false
+is_later kind.Binary = false
+is_later kind.LargeUtf8 = true
+is_later kind.LargeBinary = true
+is_later (kind.Fixed bytes) = true
+is_later kind.Date = true
+
+-- the kind is one of those that are taken, the later ones or not
+abbrev pub is_taken_kind : Bool → Kind → Bool
+is_taken_kind later kind = not (is_later kind) || later
+
+-- each column's kind is
+abbrev pub are_taken_kinds : Bool → List Column → Bool
+are_taken_kinds later columns = list_all (λ column. is_taken_kind later column.kind) columns
 
 -- A table: its name, its columns, its slots and its blocks are of their forms and within their
 -- limits.
@@ -106,7 +138,7 @@ is_block_of tables place block = option_map_or (λ table. nat_lt block table.blo
 
 -- a key is a signed number of 64 bits
 abbrev pub is_key_number : ℤ → Bool
-is_key_number key = is_integer_of I64 key
+is_key_number key = is_integer_of kind.I64 key
 
 -- The command names tables and blocks that there are, keys that are 64-bit numbers, and rows that
 -- fit.
@@ -140,10 +172,24 @@ is_line script line = is_within 1 script.sessions line.session
 abbrev pub all_lines : Script → List Line
 all_lines script = flat_map (λ round. round) script.rounds
 
--- The head of a workload: version 1, 1 to 16 tables of their own names, 1 to 64 sessions, at most
+-- the versions of the format
+abbrev pub is_version : ℕ → Bool
+is_version version = version == 1 || version == 2
+
+-- the later kinds are taken from the second version on
+abbrev pub takes_later_kinds : ℕ → Bool
+takes_later_kinds version = nat_le 2 version
+
+-- The version of a workload: one that there is, which takes the kinds of the columns.
+abbrev pub has_version : Script → Bool
+has_version script = is_version script.version
+    && list_all (λ table. are_taken_kinds (takes_later_kinds script.version) table.schema)
+    script.tables
+
+-- The head of a workload: its version, 1 to 16 tables of their own names, 1 to 64 sessions, at most
 -- 16 workers and at most 100 turns.
 abbrev pub has_head : Script → Bool
-has_head script = script.version == 1
+has_head script = has_version script
     && is_within 1 most_tables (length script.tables) && list_all is_table script.tables
     && have_own_names script.tables
     && is_within 1 most_sessions script.sessions && nat_le script.workers most_workers

@@ -8,7 +8,11 @@ ghost use Rattle.workload_spec.specs.Examples.{ScriptsAreJudged, ExtentsAreJudge
 ghost use Rattle.workload_spec.specs.Examples.{FirstFaultStands, BoundsAreJudged, HeadsAreRefused};
 ghost use Rattle.workload_spec.specs.Examples.{TablesAreRefused, LinesAreRefused, LastLineIsOpen};
 ghost use Rattle.workload_spec.specs.Examples.{PartingIsFound, RefusalIsPrinted, RepliesArePrinted};
-ghost use Rattle.workload_spec.specs.Examples.{LinesArePrinted};
+ghost use Rattle.workload_spec.specs.Examples.{LinesArePrinted, FirstVersionIsTaken};
+ghost use Rattle.workload_spec.specs.Examples.{FirstKindsAreRead, LaterKindsAreRead, NoLaterKinds};
+ghost use Rattle.workload_spec.specs.Examples.{LaterKindsAreLater, DatesAreRead};
+ghost use Rattle.workload_spec.specs.Examples.{FixedValuesAreRead, LaterScriptIsPrinted};
+ghost use Rattle.workload_spec.specs.Examples.{LaterScriptIsRead, VersionsAreJudged};
 
 /// A text with a quote, a backslash, control bytes and a longer character is escaped.
 pub fn a_text_is_escaped()
@@ -98,6 +102,56 @@ pub fn what_passes_an_extent_is_refused_where_it_stands()
 /// Of a command that is not taken and a later line that is none, the first is the fault.
 pub fn the_first_fault_stands_within_an_extent()
     ensures { FirstFaultStands }
+{}
+
+/// The first version takes these bounds, all commands, and no later kinds.
+pub fn the_first_version_has_its_bounds()
+    ensures { FirstVersionIsTaken }
+{}
+
+/// The kinds of the first version are read by their names, one with its mark for nulls.
+pub fn the_first_kinds_are_read_by_their_names()
+    ensures { FirstKindsAreRead }
+{}
+
+/// The kinds of the second version are read by their names.
+pub fn the_later_kinds_are_read_by_their_names()
+    ensures { LaterKindsAreRead }
+{}
+
+/// A width of no bytes, of too many or with a leading zero names no kind.
+pub fn other_spellings_are_no_kinds()
+    ensures { NoLaterKinds }
+{}
+
+/// The first version has none of the later kinds.
+pub fn the_first_version_has_no_later_kinds()
+    ensures { LaterKindsAreLater }
+{}
+
+/// A date is a number of 32 bits.
+pub fn dates_are_numbers()
+    ensures { DatesAreRead }
+{}
+
+/// A fixed value has just its bytes.
+pub fn a_fixed_value_has_just_its_bytes()
+    ensures { FixedValuesAreRead }
+{}
+
+/// A workload of the second version is printed.
+pub fn a_workload_of_the_second_version_is_printed()
+    ensures { LaterScriptIsPrinted }
+{}
+
+/// It is read back from its text.
+pub fn a_workload_of_the_second_version_is_read_back()
+    ensures { LaterScriptIsRead }
+{}
+
+/// It is none of the first version, and none with a width that there is not.
+pub fn a_workload_is_of_its_version()
+    ensures { VersionsAreJudged }
 {}
 
 /// The whole format and one of a column are extents; one without a column, or with more than the

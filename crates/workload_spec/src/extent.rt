@@ -1,6 +1,6 @@
 //! How much of the workload format is taken.
 ghost use Rattle.std.specs.Prelude.{◌≡◌};
-ghost use Rattle.workload_spec.specs.Extents.{whole};
+ghost use Rattle.workload_spec.specs.Extents.{extent_of};
 
 /// How much of the workload format is taken: what passes it is refused where it stands.
 #[derive(Clone, Copy, Debug)]
@@ -17,6 +17,8 @@ pub struct Extent {
     pub turns: u32,
     /// Whether a line `--` parts two rounds.
     pub parts_rounds: bool,
+    /// Whether the kinds that came with the second version are taken.
+    pub later_kinds: bool,
     pub commands: Commands,
 }
 
@@ -40,9 +42,9 @@ pub struct Commands {
 }
 
 impl Extent {
-    /// The whole format.
-    pub const fn whole() -> Extent
-        ensures { result ≡ whole }
+    /// How much a version of the format takes.
+    pub const fn of(version: u32) -> Extent
+        ensures { result ≡ extent_of version }
     {
         Extent {
             tables: 16,
@@ -51,6 +53,7 @@ impl Extent {
             workers: 16,
             turns: 100,
             parts_rounds: true,
+            later_kinds: version >= 2,
             commands: Commands {
                 begin: true,
                 get: true,

@@ -9,7 +9,7 @@ use std::marker::Model;
 /// round.
 #[derive(Debug, Drop)]
 pub struct Script {
-    /// The version of the workload format, which is 1.
+    /// The version of the workload format: 1 or 2.
     pub version: u32,
     pub tables: Tables,
     pub sessions: u32,
@@ -191,7 +191,7 @@ impl Rounds {
 /// Why a line is none of a workload: the first word or rule on it that fails.
 #[derive(Clone, Copy, Debug, PartialEq, Eq)]
 pub enum Cause {
-    /// The first line is not `store 1`.
+    /// The first line is neither `store 1` nor `store 2`.
     Version,
     /// A table line is wanting, or there is one too many.
     Table,

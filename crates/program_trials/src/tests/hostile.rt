@@ -14,7 +14,8 @@ const FROZEN: &str = "store 1\ntable a key:i64 v:utf8? slots 8 blocks 2\nsession
     1 insert a 8 \"x\"\n1 insert a 9 \"x\"\n1 commit\n1 prune\n1 observe\n1 observe\n1 seal a 0\n\
     1 seal a 1\n1 gather a 0\n1 begin\n1 export a\n";
 
-const PRINTED: &str = "1 1 1 at 0\n1 1 2 ok\n1 1 3 ok\n1 1 4 ok\n1 1 5 ok\n1 1 6 ok\n1 1 7 ok\n\
+pub(super) const PRINTED: &str =
+    "1 1 1 at 0\n1 1 2 ok\n1 1 3 ok\n1 1 4 ok\n1 1 5 ok\n1 1 6 ok\n1 1 7 ok\n\
     1 1 8 ok\n1 1 9 ok\n1 1 10 ok\n1 1 11 committed 1\n1 1 12 pruned 9\n1 1 13 cooling 0\n\
     1 1 14 cooling 1\n1 1 15 sealed a 0 1\n1 1 16 not sealed head\n1 1 17 frozen a 0 8\n\
     1 1 18 at 1\n1 1 19 export 1 rows 9 batches 2 frozen 1\n";

@@ -1,5 +1,5 @@
 -- A run's text is explained.
-use Rattle.std.proofs.Common.{◌≡◌, ◌⊎◌, ℕ, zero, suc, ◌+◌, ◌*◌, ◌<◌, ◌≤◌, ◌^◌, nat_le, Bool, true, false, cond, ◌&&◌, ◌==◌, List, [], ◌∷◌, ◌++◌, length, map, Option, None, Some, refl, sym, ap, ◌∙◌, subst, arith, length-append}
+use Rattle.std.proofs.Common.{◌≡◌, ◌⊎◌, ℕ, zero, suc, ◌+◌, ◌*◌, ◌<◌, ◌≤◌, ◌^◌, nat_le, Bool, true, false, cond, ◌&&◌, List, [], ◌∷◌, ◌++◌, length, map, Option, None, Some, refl, sym, ap, ◌∙◌, subst, arith, length-append}
 use mathlib.Core.Logic.{inl, inr}
 use Rattle.std.specs.Prelude.{IfSome, Result}
 use Rattle.std.specs.List.{cons_option, enumerate_from, flat_map, list_all, range_with_len}
@@ -32,7 +32,7 @@ use Rattle.workload_spec.specs.declared.reply.Said.{Said}
 use Rattle.workload_spec.specs.declared.reply.Said.TheVariants as said
 use Rattle.workload_spec.specs.declared.reply.Who.{Who}
 use Rattle.workload_spec.specs.declared.script.Script.{Script}
-use Rattle.workload_spec.specs.Valid.{have_own_names, is_table, is_valid, is_within, most_sessions, most_tables, most_turns, most_workers}
+use Rattle.workload_spec.specs.Valid.{have_own_names, is_table, is_valid, is_within, most_sessions, most_tables, most_turns, most_workers, has_version}
 use Rattle.run_spec.specs.Asked.{at_all_blocks, at_blocks}
 use Rattle.run_spec.specs.Calls.{Call, line_to}
 use Rattle.run_spec.specs.Occurrences.{Logged, Occurrence, occurrence_of, occurrences_from}
@@ -185,10 +185,10 @@ module _ (script : Script) (valid : is_valid script ≡ true) where
   few_seats : script.sessions + script.workers < 2 ^ 32
   few_seats =
       let h = head script valid in
-      let a = and_first (script.version == 1 && is_within 1 most_tables (length script.tables) && list_all is_table script.tables && have_own_names script.tables && is_within 1 most_sessions script.sessions && nat_le script.workers most_workers) (nat_le script.turns most_turns) h in
-      let workers = and_second (script.version == 1 && is_within 1 most_tables (length script.tables) && list_all is_table script.tables && have_own_names script.tables && is_within 1 most_sessions script.sessions) (nat_le script.workers most_workers) a in
-      let b = and_first (script.version == 1 && is_within 1 most_tables (length script.tables) && list_all is_table script.tables && have_own_names script.tables && is_within 1 most_sessions script.sessions) (nat_le script.workers most_workers) a in
-      let sessions = and_second (nat_le 1 script.sessions) (nat_le script.sessions 64) (and_second (script.version == 1 && is_within 1 most_tables (length script.tables) && list_all is_table script.tables && have_own_names script.tables) (is_within 1 most_sessions script.sessions) b) in
+      let a = and_first (has_version script && is_within 1 most_tables (length script.tables) && list_all is_table script.tables && have_own_names script.tables && is_within 1 most_sessions script.sessions && nat_le script.workers most_workers) (nat_le script.turns most_turns) h in
+      let workers = and_second (has_version script && is_within 1 most_tables (length script.tables) && list_all is_table script.tables && have_own_names script.tables && is_within 1 most_sessions script.sessions) (nat_le script.workers most_workers) a in
+      let b = and_first (has_version script && is_within 1 most_tables (length script.tables) && list_all is_table script.tables && have_own_names script.tables && is_within 1 most_sessions script.sessions) (nat_le script.workers most_workers) a in
+      let sessions = and_second (nat_le 1 script.sessions) (nat_le script.sessions 64) (and_second (has_version script && is_within 1 most_tables (length script.tables) && list_all is_table script.tables && have_own_names script.tables) (is_within 1 most_sessions script.sessions) b) in
       let w : script.workers ≤ 16 = grind (arith, nat_tests, workers) in
       let s : script.sessions ≤ 64 = grind (arith, nat_tests, sessions) in
       omega (arith, w, s)
@@ -197,12 +197,12 @@ module _ (script : Script) (valid : is_valid script ≡ true) where
   few_tables : length script.tables ≤ 16
   few_tables =
       let h = head script valid in
-      let a = and_first (script.version == 1 && is_within 1 most_tables (length script.tables) && list_all is_table script.tables && have_own_names script.tables && is_within 1 most_sessions script.sessions && nat_le script.workers most_workers) (nat_le script.turns most_turns) h in
-      let b = and_first (script.version == 1 && is_within 1 most_tables (length script.tables) && list_all is_table script.tables && have_own_names script.tables && is_within 1 most_sessions script.sessions) (nat_le script.workers most_workers) a in
-      let c = and_first (script.version == 1 && is_within 1 most_tables (length script.tables) && list_all is_table script.tables && have_own_names script.tables) (is_within 1 most_sessions script.sessions) b in
-      let d = and_first (script.version == 1 && is_within 1 most_tables (length script.tables) && list_all is_table script.tables) (have_own_names script.tables) c in
-      let e = and_first (script.version == 1 && is_within 1 most_tables (length script.tables)) (list_all is_table script.tables) d in
-      let f = and_second (nat_le 1 (length script.tables)) (nat_le (length script.tables) 16) (and_second (script.version == 1) (is_within 1 most_tables (length script.tables)) e) in
+      let a = and_first (has_version script && is_within 1 most_tables (length script.tables) && list_all is_table script.tables && have_own_names script.tables && is_within 1 most_sessions script.sessions && nat_le script.workers most_workers) (nat_le script.turns most_turns) h in
+      let b = and_first (has_version script && is_within 1 most_tables (length script.tables) && list_all is_table script.tables && have_own_names script.tables && is_within 1 most_sessions script.sessions) (nat_le script.workers most_workers) a in
+      let c = and_first (has_version script && is_within 1 most_tables (length script.tables) && list_all is_table script.tables && have_own_names script.tables) (is_within 1 most_sessions script.sessions) b in
+      let d = and_first (has_version script && is_within 1 most_tables (length script.tables) && list_all is_table script.tables) (have_own_names script.tables) c in
+      let e = and_first (has_version script && is_within 1 most_tables (length script.tables)) (list_all is_table script.tables) d in
+      let f = and_second (nat_le 1 (length script.tables)) (nat_le (length script.tables) 16) (and_second (has_version script) (is_within 1 most_tables (length script.tables)) e) in
       grind (arith, nat_tests, f)
 
   -- A table of a valid script has at most 1024 blocks.

@@ -28,7 +28,7 @@ use Rattle.workload_spec.specs.declared.command.Command.{Command}
 use Rattle.workload_spec.specs.declared.command.Command.TheVariants as command
 use Rattle.workload_spec.specs.declared.script.Line.{Line}
 use Rattle.workload_spec.specs.declared.script.Script.{Script}
-use Rattle.workload_spec.specs.Valid.{all_lines, are_blocks, are_columns, are_slots, fits_table, has_head, have_own_names, is_command, is_export, is_key_number, is_line, is_name, is_table, is_valid, is_table_place, is_within, most_sessions, most_tables, most_turns, most_workers}
+use Rattle.workload_spec.specs.Valid.{all_lines, are_blocks, are_columns, are_slots, fits_table, has_head, have_own_names, is_command, is_export, is_key_number, is_line, is_name, is_table, is_valid, is_table_place, is_within, most_sessions, most_tables, most_turns, most_workers, has_version, is_column}
 use Rattle.workload_spec.specs.declared.reply.Said.{Said}
 use Rattle.workload_laws.proofs.CommandsBack.{key_cell}
 use Rattle.run_spec.specs.Occurrences.{Occurrence}
@@ -121,11 +121,11 @@ module _ (script : Script) (valid : is_valid script ≡ true) where
 
   -- The tables of a valid script are all as a table has to be.
   tables_are : list_all is_table script.tables ≡ true
-  tables_are = and_second (script.version == 1 && is_within 1 most_tables (length script.tables)) (list_all is_table script.tables)
-      (and_first (script.version == 1 && is_within 1 most_tables (length script.tables) && list_all is_table script.tables) (have_own_names script.tables)
-      (and_first (script.version == 1 && is_within 1 most_tables (length script.tables) && list_all is_table script.tables && have_own_names script.tables) (is_within 1 most_sessions script.sessions)
-      (and_first (script.version == 1 && is_within 1 most_tables (length script.tables) && list_all is_table script.tables && have_own_names script.tables && is_within 1 most_sessions script.sessions) (nat_le script.workers most_workers)
-      (and_first (script.version == 1 && is_within 1 most_tables (length script.tables) && list_all is_table script.tables && have_own_names script.tables && is_within 1 most_sessions script.sessions && nat_le script.workers most_workers) (nat_le script.turns most_turns) head))))
+  tables_are = and_second (has_version script && is_within 1 most_tables (length script.tables)) (list_all is_table script.tables)
+      (and_first (has_version script && is_within 1 most_tables (length script.tables) && list_all is_table script.tables) (have_own_names script.tables)
+      (and_first (has_version script && is_within 1 most_tables (length script.tables) && list_all is_table script.tables && have_own_names script.tables) (is_within 1 most_sessions script.sessions)
+      (and_first (has_version script && is_within 1 most_tables (length script.tables) && list_all is_table script.tables && have_own_names script.tables && is_within 1 most_sessions script.sessions) (nat_le script.workers most_workers)
+      (and_first (has_version script && is_within 1 most_tables (length script.tables) && list_all is_table script.tables && have_own_names script.tables && is_within 1 most_sessions script.sessions && nat_le script.workers most_workers) (nat_le script.turns most_turns) head))))
 
   -- Where all tables are as they have to be, one with a number below their count is.
   table_at : (tables : List TableDecl) (t : ℕ) → list_all is_table tables ≡ true → t < length tables → (decl : TableDecl) × (slice_get tables t ≡ Some decl) × (is_table decl ≡ true)
@@ -198,7 +198,7 @@ module _ (script : Script) (valid : is_valid script ≡ true) where
           (and_first (is_name at.0.name && are_columns at.0.schema && are_slots at.0.schema at.0.slots) (are_blocks at.0.blocks) at.2)) in
           let begins : begins_with_key at.0.schema ≡ true = and_first (begins_with_key at.0.schema) (nat_le (length at.0.schema) most_columns)
           (and_first (begins_with_key at.0.schema && nat_le (length at.0.schema) most_columns) (is_none (first_twins 0 at.0.schema))
-          (and_first (begins_with_key at.0.schema && nat_le (length at.0.schema) most_columns && is_none (first_twins 0 at.0.schema)) (list_all (λ (column : Column). is_name column.name) at.0.schema) columns)) in
+          (and_first (begins_with_key at.0.schema && nat_le (length at.0.schema) most_columns && is_none (first_twins 0 at.0.schema)) (list_all is_column at.0.schema) columns)) in
           row_key at.0.schema row begins (ap (λ o. option_map_or (λ (decl : TableDecl). fits decl.schema row) o false) (sym at.1) ∙ fitting)
 
   -- what is asked and is no upkeep is a command of the tables

@@ -42,8 +42,8 @@ unfolding is_utf8 chars encode
 named =
     let key : Column = record { name = key_name; kind = kind.I64; nullable = false } in
     let text : Column = record { name = text_name; kind = kind.Utf8; nullable = true } in
-    All-cons IsName key (text ∷ []) (IsUtf8-from_is_utf8 key_name refl, lit≤ tt)
-    (All-cons IsName text [] (IsUtf8-from_is_utf8 text_name refl, lit≤ tt) (All-nil IsName))
+    All-cons IsName key (text ∷ []) (IsUtf8-from_is_utf8 key_name refl, lit≤ tt, refl)
+    (All-cons IsName text [] (IsUtf8-from_is_utf8 text_name refl, lit≤ tt, refl) (All-nil IsName))
 
 batch : (keys : List ℕ) → list_all (fits key_and_text) (x_rows keys) ≡ true
     → length (x_rows keys) ≤ 2 ^ 15

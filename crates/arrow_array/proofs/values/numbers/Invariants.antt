@@ -1,9 +1,9 @@
 use Rattle.std.proofs.Common.{◌≡◌, take}
 use Rattle.std.specs.Prelude.{flat_map}
 use Rattle.arrow_spec.specs.Arrays.{number_of}
-use Rattle.arrow_array.specs.Batches.{cell_at, kind_bytes}
+use Rattle.arrow_array.specs.Batches.{cell_at, value_bytes}
 use Rattle.arrow_array.proofs.values.numbers.Given as goal
 
 abbrev pub invariant-loop-row : goal.invariant-loop-row
 invariant-loop-row l =
-    l.bytes.items ≡ flat_map (λ row. kind_bytes l.fn.kind (number_of (cell_at l.place row))) (take l.row-index l.rows)
+    l.bytes.items ≡ flat_map (λ row. value_bytes l.values (number_of (cell_at l.place row))) (take l.row-index l.rows)

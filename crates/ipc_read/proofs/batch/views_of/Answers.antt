@@ -20,7 +20,9 @@ loop-i-preserved c =
     let declared = c.index-columns-i.result in
     let views = c.loop-i.views.items in
     let front = map (cells_in rows) views in
-    let mid : 1 + c.data_count.result ≡ 1 + data_count (values_of declared.kind) = ap (λ n. 1 + n) c.data_count.ensures in
+    let sort = c.values-sort.ensures in
+    let mid : 1 + c.data_count.result ≡ 1 + data_count (values_of declared.kind) = ap (λ n. 1 + n) (c.data_count.ensures ∙ ap data_count sort) in
+    let read = rw sort at c.in-Ok.ensures.column in
     let rest : Result (List (List Cell)) Cause = columns_of body rows (drop (i + 1) columns) (drop (i + 1) nodes) c.split_at.result.1.now in
     record {
       count = count_left columns c.loop-i.left.now i (1 + c.data_count.result) _ declared c.loop-i-test.true c.index-columns-i.is c.loop-i.invariant.count mid c.split_at.ensures.back_len;
@@ -30,6 +32,6 @@ loop-i-preserved c =
           ∙ (ap (behind front) (column_due body rows columns nodes c.loop-i.left.now c.split_at.result.0.now c.split_at.result.1.now i (1 + c.data_count.result) declared
           (record { length = pos 0; null_count = pos 0 }) (record { offset = pos 0; length = pos 0 })
           c.loop-i-test.true c.index-columns-i.is c.requires.a_node_each c.loop-i.invariant.count mid c.split_at.ensures.front c.split_at.ensures.back)
-          ∙ (behind_more front (cells_in rows c.in-Ok.view) _ rest c.in-Ok.ensures.column
+          ∙ (behind_more front (cells_in rows c.in-Ok.view) _ rest read
           ∙ ap (λ cells. behind cells rest) (sym (ap (map (cells_in rows)) c.in_ok-push-in-Ok.ensures.items ∙ map-append (cells_in rows) views (c.in-Ok.view ∷ [])))));
     }

@@ -3,4 +3,4 @@ use Rattle.program.proofs.checking.parse_whole.Goals as goal
 
 pub returns-clause-valid : goal.returns-clause-valid
 returns-clause-valid c =
-    valid_checked (λ x. (x.0, x.1.now)) c.args.bytes.now c.parse_checked.result (rw c.whole.ensures at c.parse_checked.ensures)
+    valid_checked (λ x. (x.0, x.1.now)) c.args.bytes.now c.parse_checked.result c.parse_checked.ensures

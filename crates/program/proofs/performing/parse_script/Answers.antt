@@ -1,8 +1,5 @@
 use Rattle.program.proofs.Scripts.{valid_read}
 use Rattle.program.proofs.performing.parse_script.Goals as goal
 
-pub returns-clause-read : goal.returns-clause-read
-returns-clause-read c = rw c.whole.ensures at c.parse.ensures
-
 pub returns-clause-valid : goal.returns-clause-valid
-returns-clause-valid c = valid_read c.args.bytes.now c.parse.result (rw c.whole.ensures at c.parse.ensures)
+returns-clause-valid c = valid_read c.args.bytes.now c.parse.result c.parse.ensures

@@ -2,6 +2,7 @@ use Rattle.std.proofs.Common.{rules, ◌≡◌, ◌∙◌, true, ap, sym, None, 
 use Rattle.std.specs.Prelude.{option_and_then}
 use Rattle.std.specs.Result.{is_ok}
 use Rattle.cell_model.specs.Rows.{AnswersFault, cell_fault}
+use Rattle.cell_model.specs.Kinds.{values_of}
 use Rattle.cell_model.specs.declared.cell.Cell.{Cell}
 use Rattle.cell_model.specs.declared.cell.Cell.TheVariants.{Null}
 use Rattle.cell_model.specs.declared.column.Column.{Column}
@@ -10,7 +11,7 @@ use Rattle.workload_spec.specs.declared.script.Cause.TheVariants as cause
 use Rattle.workload_spec.specs.Reading.{cell_of}
 use Rattle.workload_spec.specs.Grammar.{or_cause}
 use Rattle.script_text.specs.Spellings.{standing, value_spelled}
-use Rattle.script_text.proofs.CellSpellings.{cell_null, cell_value}
+use Rattle.script_text.proofs.Spelled.{cell_null, cell_value}
 use Rattle.script_text.proofs.cells.cell_of.Goals as goal
 use Rattle.script_text.proofs.cells.cell_of.Goals.{then-eq, else-eq+in_ok-spelled}
 
@@ -33,6 +34,6 @@ returns-in-Some c =
     elim c.if-eq.branch [
       | then-eq w ↦ let is : c.if-eq.spelled ≡ Some Null = search rules in
           read_as column word c.if-eq.spelled c.in-Some.cell (cell_null column word (search rules) ∙ ap (option_and_then (standing column)) (sym is)) c.in-Some.is fits
-      | else-eq+in_ok-spelled w ↦ let is : c.if-eq.spelled ≡ value_spelled column.kind word = search rules in
+      | else-eq+in_ok-spelled w ↦ let is : c.if-eq.spelled ≡ value_spelled (values_of column.kind) word = search rules in
           read_as column word c.if-eq.spelled c.in-Some.cell (cell_value column word (search rules) ∙ ap (option_and_then (standing column)) (sym is)) c.in-Some.is fits
     ]

@@ -2,8 +2,8 @@ use Rattle.std.proofs.Common.{◌≡◌, ◌≤◌, ap, ◌∙◌, sym, subst, L
 use Rattle.std.specs.Prelude.{slice_set, []}
 use Rattle.cell_model.specs.declared.cell.Cell.{Cell}
 use Rattle.cell_model.specs.declared.cell.Cell.TheVariants.{Null}
-use Rattle.arrow_spec.specs.Arrays.{value_of}
-use Rattle.block_columns.specs.Cells.{ColumnValue, Keeps, cells_in}
+use Rattle.cell_model.specs.Kinds.{values_of}
+use Rattle.block_columns.specs.Cells.{ColumnValue, Keeps, cells_in, own_bytes}
 use Rattle.block_columns.proofs.Kept.{keeps-set, keeps-cells, keeps-itself, keeps-moved}
 use Rattle.block_columns.proofs.cells.ColumnCells.take.Goals as goal
 
@@ -17,7 +17,7 @@ pub returns-clause-taken : goal.returns-clause-taken
 returns-clause-taken c =
     keeps-moved _ _ _ _ c.args.at c.clear-moved.result c.moved_cell.result c.args.spare c.self.invariant c.clear-moved.ensures.moved c.clear-moved.ensures.long c.clear-moved.ensures.short
     c.moved_cell.ensures.some c.moved_cell.ensures.none
-    (subst (λ (v : ColumnValue). length (value_of (get_or v.cells c.args.at Null)) ≤ 12 → c.args.spare ≡ get_or v.cells c.args.at Null) (sym c.self.view_is) c.requires.spare)
+    (subst (λ (v : ColumnValue). length (own_bytes (values_of v.column.kind) (get_or v.cells c.args.at Null)) ≤ 12 → c.args.spare ≡ get_or v.cells c.args.at Null) (sym c.self.view_is) c.requires.spare)
     ∙ ap (λ (v : ColumnValue). get_or v.cells c.args.at Null) c.self.view_is
 
 pub returns-clause-left : goal.returns-clause-left

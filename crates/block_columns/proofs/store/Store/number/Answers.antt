@@ -6,3 +6,6 @@ returns-in-Truths c = no-number-stored c.args.self.now c.args.at c.in-Truths.is
 
 pub returns-in-Truths-2 : goal.returns-in-Truths-2
 returns-in-Truths-2 c = no-number-stored c.args.self.now c.args.at c.in-Truths.is
+
+pub returns-in-Truths-3 : goal.returns-in-Truths-3
+returns-in-Truths-3 c = no-number-stored c.args.self.now c.args.at c.in-Truths.is

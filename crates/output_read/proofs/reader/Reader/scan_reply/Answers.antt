@@ -1,10 +1,9 @@
-use Rattle.std.proofs.Common.{◌≡◌, true, refl, sym, ap, ◌∙◌, Some, List, ℕ, drop, subst, arith}
+use Rattle.std.proofs.Common.{◌≡◌, refl, sym, ap, ◌∙◌, Some, List, ℕ, drop, subst, arith}
 use Rattle.workload_spec.specs.declared.reply.Who.TheVariants.{Session}
 use Rattle.outcome_spec.specs.Tables.{columns_at}
 use Rattle.output_read.specs.declared.reader.Heading.{Heading}
 use Rattle.output_read.specs.declared.kept.Told.TheVariants as told
 use Rattle.output_read.specs.Fronts.{count_first}
-use Rattle.output_read.specs.Kept.{is_told}
 use Rattle.output_read.specs.Readers.{lines_left}
 use Rattle.output_read.specs.Threads.{ThreadGoes}
 use Rattle.output_read.proofs.RowLines.{above-short}

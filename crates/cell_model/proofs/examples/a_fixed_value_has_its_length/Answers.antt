@@ -1,0 +1,5 @@
+use Rattle.std.proofs.Common.{refl}
+use Rattle.cell_model.proofs.examples.a_fixed_value_has_its_length.Goals as goal
+
+pub returns : goal.returns
+returns c = refl
