@@ -6,6 +6,7 @@ pub mod Rounds
 pub mod Order
 pub mod Told
 pub mod Places
+pub mod Plain
 pub mod Stamps
 pub mod Freezing
 pub mod Full

@@ -1,6 +1,6 @@
 -- The replies of a generated workload in parts: the transactions of write rounds, the lines of
 -- upkeep, and the last round.
-use Rattle.std.proofs.Common.{◌≡◌, ℕ, ◌+◌, ◌*◌, ◌<◌, ◌≤◌, zero, suc, List, [], ◌∷◌, ◌++◌, map, Option, ap, ◌∙◌, arith, append_assoc}
+use Rattle.std.proofs.Common.{◌≡◌, ℕ, ◌+◌, ◌*◌, ◌<◌, ◌≤◌, zero, suc, false, List, [], ◌∷◌, ◌++◌, map, Option, ap, ◌∙◌, arith, append_assoc}
 use Rattle.cell_model.specs.declared.cell.Cell.{Cell}
 use Rattle.workload_spec.specs.declared.command.Command.{Command}
 use Rattle.workload_spec.specs.declared.command.Command.TheVariants as command
@@ -50,7 +50,7 @@ pub record Wrote : Type 0 where
 
 -- the reply to a transaction's begin
 abbrev pub begin : Wrote → Entry
-begin w = entry w.begin_line w.round w.session w.begin_index command.Begin (said.At w.snapshot)
+begin w = entry w.begin_line w.round w.session w.begin_index (command.Begin false) (said.At w.snapshot)
 
 -- the reply to its insert
 abbrev pub insert : Wrote → Entry
@@ -140,7 +140,7 @@ pub record Last : Type 0 where
 
 -- the reply to the last round's begin
 abbrev pub last_begin : Last → Entry
-last_begin l = entry l.begin_line l.round 1 l.begin_index command.Begin (said.At l.snapshot)
+last_begin l = entry l.begin_line l.round 1 l.begin_index (command.Begin false) (said.At l.snapshot)
 
 -- the reply to its scan
 abbrev pub last_scan : Last → Entry

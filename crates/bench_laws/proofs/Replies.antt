@@ -15,10 +15,11 @@ use Rattle.workload_spec.specs.declared.reply.Who.{Who}
 use Rattle.workload_spec.specs.declared.reply.Who.TheVariants.{Session}
 use Rattle.workload_spec.specs.declared.reply.Said.{Said}
 use Rattle.workload_spec.specs.declared.reply.Said.TheVariants as said
-use Rattle.outcome_spec.specs.Entries.{Entry, is_same}
-use Rattle.outcome_spec.specs.Forms.{Due, begins_with, entry_behind, is_silent, is_upkeep, is_within, line_count, lines_begun, next_line, reading, reply_at, replies_due, replies_within, replies_without, within_behind}
+use Rattle.workload_spec.specs.declared.reply.StaleRead.{StaleRead}
+use Rattle.outcome_spec.specs.Entries.{Entry, is_end, is_same}
+use Rattle.outcome_spec.specs.Forms.{Due, begins_with, entry_behind, is_silent, is_upkeep, is_within, line_count, lines_begun, next_line, reading, reply_at, replies_due, replies_within, replies_without, within_behind, stale_reply, stale_replies, key_named, table_named, range_named}
 use Rattle.outcome_spec.specs.Reading.{words_in, integer_at}
-use Rattle.bench_laws.proofs.Every.{Every, every-any, every-filter, found-image}
+use Rattle.bench_laws.proofs.Every.{Every, every-any, every-append, every-filter, found-image}
 
 -- a begin outside of a transaction may be told this
 abbrev pub IsBeginReply : Said → Type 0
@@ -48,6 +49,7 @@ IsUpdateReply table _ = ⊥
 -- a commit may be told this
 abbrev pub IsCommitReply : Said → Type 0
 IsCommitReply (said.Committed number) = Unit {0}
+IsCommitReply (said.Stale what number) = Unit {0}
 IsCommitReply _ = ⊥
 
 -- a scan may be told this
@@ -86,9 +88,11 @@ IsGatherReply table block _ = ⊥
 
 -- what a command may be told in a transaction, or as upkeep
 abbrev pub FitsWithin : Command → Said → Type 0
-FitsWithin command.Begin told = Unit {0}
+FitsWithin (command.Begin checked) told = Unit {0}
 FitsWithin (command.Get table key) told = Unit {0}
 FitsWithin (command.Scan table) told = IsScanReply told
+FitsWithin (command.Range table low high) told = Unit {0}
+FitsWithin (command.Total table column low high) told = Unit {0}
 FitsWithin (command.Insert table row) told = IsInsertReply told
 FitsWithin (command.Update table row) told = IsUpdateReply table told
 FitsWithin (command.Delete table key) told = Unit {0}
@@ -103,7 +107,7 @@ FitsWithin (command.Export table) told = IsExportReply told
 
 -- and outside of one
 abbrev pub FitsWithout : Command → Said → Type 0
-FitsWithout command.Begin told = IsBeginReply told
+FitsWithout (command.Begin checked) told = IsBeginReply told
 FitsWithout _ told = Unit {0}
 
 -- what it may be told, in a transaction or outside of one
@@ -116,15 +120,32 @@ dirty-fits : (b : Bool) (key : ℤ) → Every IsExportReply (if b then said.Dirt
 dirty-fits true key = (tt, tt)
 dirty-fits false key = tt
 
+-- Where a commit may be told of a stale read, that is a reply to a commit.
+stale-one : (words : List (List ℕ)) (at : ℕ) (what : Option StaleRead) → Every IsCommitReply (stale_reply words at what)
+stale-one words at (Some what) = (tt, tt)
+stale-one words at None = tt
+
+-- So it is of a key, of a table and of a range.
+stale-fits : (tables : List TableDecl) (words : List (List ℕ)) → Every IsCommitReply (stale_replies tables words)
+stale-fits tables words =
+    let key = stale_reply words 3 (key_named tables words) in
+    let table = stale_reply words 3 (table_named tables words) in
+    let range = stale_reply words 5 (range_named tables words) in
+    every-append IsCommitReply (key ++ table) range
+    (every-append IsCommitReply key table (stale-one words 3 (key_named tables words)) (stale-one words 3 (table_named tables words)))
+    (stale-one words 5 (range_named tables words))
+
 -- Each reply that is read for a command in a transaction, or for upkeep, fits it.
 within-fits : (tables : List TableDecl) (words behind : List (List ℕ)) (asked : Command) → Every (FitsWithin asked) (replies_within tables words behind asked)
-within-fits tables words behind command.Begin = (tt, tt)
+within-fits tables words behind (command.Begin checked) = (tt, tt)
 within-fits tables words behind (command.Get table key) = every-any (replies_within tables words behind (command.Get table key))
 within-fits tables words behind (command.Scan table) = (tt, (tt, tt))
+within-fits tables words behind (command.Range table low high) = every-any (replies_within tables words behind (command.Range table low high))
+within-fits tables words behind (command.Total table column low high) = every-any (replies_within tables words behind (command.Total table column low high))
 within-fits tables words behind (command.Insert table row) = (tt, (tt, (tt, (tt, (tt, (tt, tt))))))
 within-fits tables words behind (command.Update table row) = (tt, (tt, (tt, (refl, (tt, (tt, tt))))))
 within-fits tables words behind (command.Delete table key) = every-any (replies_within tables words behind (command.Delete table key))
-within-fits tables words behind command.Commit = (tt, (tt, tt))
+within-fits tables words behind command.Commit = (tt, (tt, stale-fits tables words))
 within-fits tables words behind command.Abort = (tt, tt)
 within-fits tables words behind command.Observe = (tt, tt)
 within-fits tables words behind command.Prune = (tt, tt)
@@ -135,9 +156,11 @@ within-fits tables words behind (command.Export table) = (tt, (tt, dirty-fits (i
 
 -- Each reply that is read for a command outside of a transaction fits it.
 without-fits : (words : List (List ℕ)) (asked : Command) → Every (FitsWithout asked) (replies_without words asked)
-without-fits words command.Begin = (tt, tt)
+without-fits words (command.Begin checked) = (tt, tt)
 without-fits words (command.Get table key) = (tt, tt)
 without-fits words (command.Scan table) = (tt, tt)
+without-fits words (command.Range table low high) = (tt, tt)
+without-fits words (command.Total table column low high) = (tt, tt)
 without-fits words (command.Insert table row) = (tt, tt)
 without-fits words (command.Update table row) = (tt, tt)
 without-fits words (command.Delete table key) = (tt, tt)
@@ -294,10 +317,22 @@ pub begin-shows : (told : Said) (P : Said → Type 0) → IsBeginReply told → 
 begin-shows (said.At number) P h p = (number, p)
 begin-shows _ P h p = absurd h
 
--- a commit shows a number or none
-pub commit-shows : (told : Said) (P : Said → Type 0) → IsCommitReply told → P told → (number : Option ℕ) × P (said.Committed number)
-commit-shows (said.Committed number) P h p = (number, p)
-commit-shows _ P h p = absurd h
+-- a commit that is refused is told so
+abbrev pub IsStale : Said → Type 0
+IsStale (said.Stale what number) = Unit {0}
+IsStale _ = ⊥
+
+-- a commit that is not refused shows a number or none
+pub commit-shows : (told : Said) (P : Said → Type 0) → IsCommitReply told → (IsStale told → ⊥) → P told → (number : Option ℕ) × P (said.Committed number)
+commit-shows (said.Committed number) P h stands p = (number, p)
+commit-shows (said.Stale what number) P h stands p = absurd (stands tt)
+commit-shows _ P h stands p = absurd h
+
+-- What leaves a session in its transaction ends none.
+pub stays : (told : Said) → within_behind true told ≡ true → is_end told ≡ false
+stays (said.Committed number) h = absurd (let never : ⊥ = cc in never)
+stays said.Aborted h = absurd (let never : ⊥ = cc in never)
+stays _ h = refl
 
 -- in a transaction, outside of one, and for upkeep
 pub fits-in : (b : Bool) (asked : Command) (told : Said) → b ≡ true → is_upkeep asked ≡ false → FitsBy (b || is_upkeep asked) asked told → FitsWithin asked told
@@ -305,7 +340,7 @@ fits-in true asked told is up h = h
 fits-in false asked told is up h = absurd (let never : ⊥ = cc in never)
 
 -- a begin outside of a transaction is told a snapshot
-pub fits-out : (b : Bool) (told : Said) → b ≡ false → FitsBy (b || false) command.Begin told → IsBeginReply told
+pub fits-out : (b : Bool) (told : Said) → b ≡ false → FitsBy (b || false) (command.Begin false) told → IsBeginReply told
 fits-out true told is h = absurd (let never : ⊥ = cc in never)
 fits-out false told is h = h
 

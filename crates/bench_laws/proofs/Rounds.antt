@@ -1,5 +1,5 @@
 -- Round by round, the replies of a generated workload are read as its parts.
-use Rattle.std.proofs.Common.{◌≡◌, ℕ, ◌+◌, ◌*◌, ◌/◌, ◌%◌, ◌≤◌, zero, suc, Bool, true, false, ◌||◌, List, [], ◌∷◌, ◌++◌, refl, ap, ◌∙◌, subst, arith, append-nil}
+use Rattle.std.proofs.Common.{◌≡◌, ℕ, ◌+◌, ◌*◌, ◌/◌, ◌%◌, ◌≤◌, zero, suc, Bool, true, false, ◌||◌, List, [], ◌∷◌, ◌++◌, refl, sym, ap, ◌∙◌, subst, arith, append-nil}
 use Rattle.std.specs.Prelude.{flat_map, if◌then◌else◌, ◌==◌}
 use Rattle.std.specs.List.{enumerate_from, range_with_len}
 use Rattle.cell_model.specs.declared.table.TableDecl.{TableDecl}
@@ -13,9 +13,11 @@ use Rattle.workload_spec.specs.declared.script.Script.{Script}
 use Rattle.outcome_spec.specs.Entries.{Entry}
 use Rattle.outcome_spec.specs.Forms.{Due, commands_of, dues_in, dues_to, entry_behind, is_upkeep, is_within}
 use Rattle.bench_spec.specs.Generated.{bench_script, bench_table, freezing, last_round, rounds_at, upkeep_round, write_round, writers}
-use Rattle.bench_laws.proofs.Replies.{due, Goes, step, done, within-count, within-seal, within-gather, within-scan, within-export, begin-shows, commit-shows, fits-in, fits-out, fits-upkeep, FitsBy, IsBeginReply, IsCommitReply, IsCountReply, IsSealReply, IsGatherReply, IsScanReply, IsExportReply}
+use Rattle.bench_laws.proofs.Every.{Every, every-append}
+use Rattle.bench_laws.proofs.Replies.{due, Goes, step, done, within-count, within-seal, within-gather, within-scan, within-export, begin-shows, commit-shows, stays, fits-in, fits-out, fits-upkeep, FitsBy, IsBeginReply, IsCommitReply, IsCountReply, IsSealReply, IsGatherReply, IsScanReply, IsExportReply}
 use Rattle.bench_laws.proofs.Parts.{Wrote, Kept, Froze, Last, GoodWrote, IsKept, Rest, first_row, next_row, rest-weaker, rest-writes, rest-keeps, rest-freezes, replies_to, turns}
-use Rattle.bench_laws.proofs.Walk.{AllOut, tx_dues, transaction-read, own-more, quiet-more}
+use Rattle.bench_laws.proofs.Plain.{Stands, IsPlainDue}
+use Rattle.bench_laws.proofs.Walk.{AllOut, committed, tx_dues, transaction-read, own-more, quiet-more}
 
 -- What fits pruning, observing or compacting is a reply to one of them.
 count-fits : (asked : Command) → IsKept asked → (told : Said) (b : Bool) → FitsBy (b || is_upkeep asked) asked told → IsCountReply told
@@ -39,7 +41,7 @@ abbrev freeze_dues : ℕ → List ℕ → List Due
 freeze_dues round [] = []
 freeze_dues round (block ∷ blocks) = due round 1 (command.Seal 0 block) ∷ due round 1 (command.Gather 0 block) ∷ freeze_dues round blocks
 
-module _ (seed : ℕ) (tables : List TableDecl) (entries : List Entry) where
+module _ (seed : ℕ) (tables : List TableDecl) (entries : List Entry) (stands : Stands entries) where
   -- what is read behind, where nobody is in a transaction
   abbrev pub Onward : ℕ → ℕ → ℕ → ℕ → List Due → List (ℕ × ℕ) → Type 0
   Onward round place turn least dues asked = (next : List Entry) → AllOut next → Goes tables next dues entries → Rest seed round place turn least next entries asked
@@ -49,7 +51,7 @@ module _ (seed : ℕ) (tables : List TableDecl) (entries : List Entry) where
       → Onward (round + 1) (4 * round + session + 1) (4 * turn + session + 1) l dues asked
       → Onward (round + 1) (4 * round + session) (4 * turn + session) l (tx_dues seed round turn session ++ dues) ((turn, session) ∷ asked)
   writes-then round turn session l dues asked low high turn_low far onward earlier out goes =
-      let t = transaction-read seed tables round turn session low high turn_low dues entries earlier out goes in
+      let t = transaction-read seed tables round turn session low high turn_low dues entries stands earlier out goes in
       by t.wrote t.round_is t.turn_is t.session_is t.good (onward (earlier ++ replies_to t.wrote) t.out t.rest)
     where
       by : (w : Wrote) → w.round ≡ round → w.turn ≡ turn → w.session ≡ session → GoodWrote seed w
@@ -99,12 +101,12 @@ module _ (seed : ℕ) (tables : List TableDecl) (entries : List Entry) where
   -- ---- the last round
 
   -- The transaction of the last round is read, with nothing behind it.
-  last-read : (round t : ℕ) → Onward round (4 * round + 1) t round (due round 1 command.Begin ∷ due round 1 (command.Scan 0) ∷ due round 1 (command.Export 0) ∷ due round 1 command.Commit ∷ []) []
+  last-read : (round t : ℕ) → Onward round (4 * round + 1) t round (due round 1 (command.Begin false) ∷ due round 1 (command.Scan 0) ∷ due round 1 (command.Export 0) ∷ due round 1 command.Commit ∷ []) []
   last-read round t earlier out goes =
-      let first = step tables earlier round 1 command.Begin (due round 1 (command.Scan 0) ∷ due round 1 (command.Export 0) ∷ due round 1 command.Commit ∷ []) entries goes in
+      let first = step tables earlier round 1 (command.Begin false) (due round 1 (command.Scan 0) ∷ due round 1 (command.Export 0) ∷ due round 1 command.Commit ∷ []) entries goes in
       let begins : IsBeginReply first.told = fits-out (is_within (Session 1) earlier) first.told (out 1) first.fits in
-      let begun = begin-shows first.told (λ s. Goes tables (earlier ++ entry_behind tables earlier (due round 1 command.Begin) s ∷ []) (due round 1 (command.Scan 0) ∷ due round 1 (command.Export 0) ∷ due round 1 command.Commit ∷ []) entries) begins first.rest in
-      let a = entry_behind tables earlier (due round 1 command.Begin) (said.At begun.0) in
+      let begun = begin-shows first.told (λ s. Goes tables (earlier ++ entry_behind tables earlier (due round 1 (command.Begin false)) s ∷ []) (due round 1 (command.Scan 0) ∷ due round 1 (command.Export 0) ∷ due round 1 command.Commit ∷ []) entries) begins first.rest in
+      let a = entry_behind tables earlier (due round 1 (command.Begin false)) (said.At begun.0) in
       let in_a : is_within (Session 1) (earlier ++ a ∷ []) ≡ true = own-more 1 earlier a false refl (out 1) in
       let second = step tables (earlier ++ a ∷ []) round 1 (command.Scan 0) (due round 1 (command.Export 0) ∷ due round 1 command.Commit ∷ []) entries begun.1 in
       let scans : IsScanReply second.told = fits-in (is_within (Session 1) (earlier ++ a ∷ [])) (command.Scan 0) second.told in_a refl second.fits in
@@ -116,7 +118,9 @@ module _ (seed : ℕ) (tables : List TableDecl) (entries : List Entry) where
       let in_c : is_within (Session 1) (((earlier ++ a ∷ []) ++ b ∷ []) ++ c ∷ []) ≡ true = own-more 1 ((earlier ++ a ∷ []) ++ b ∷ []) c true refl in_b ∙ within-export third.told exports in
       let fourth = step tables (((earlier ++ a ∷ []) ++ b ∷ []) ++ c ∷ []) round 1 command.Commit [] entries third.rest in
       let commits : IsCommitReply fourth.told = fits-in (is_within (Session 1) (((earlier ++ a ∷ []) ++ b ∷ []) ++ c ∷ [])) command.Commit fourth.told in_c refl fourth.fits in
-      let shown = commit-shows fourth.told (λ s. Goes tables ((((earlier ++ a ∷ []) ++ b ∷ []) ++ c ∷ []) ++ entry_behind tables (((earlier ++ a ∷ []) ++ b ∷ []) ++ c ∷ []) (due round 1 command.Commit) s ∷ []) [] entries) commits fourth.rest in
+      let told = entry_behind tables (((earlier ++ a ∷ []) ++ b ∷ []) ++ c ∷ []) (due round 1 command.Commit) fourth.told in
+      let stood = committed tables earlier a b c told [] entries 1 begun.0 stands refl refl refl refl refl (stays second.told (within-scan second.told scans)) (stays third.told (within-export third.told exports)) fourth.rest in
+      let shown = commit-shows fourth.told (λ s. Goes tables ((((earlier ++ a ∷ []) ++ b ∷ []) ++ c ∷ []) ++ entry_behind tables (((earlier ++ a ∷ []) ++ b ∷ []) ++ c ∷ []) (due round 1 command.Commit) s ∷ []) [] entries) commits stood fourth.rest in
       let d = entry_behind tables (((earlier ++ a ∷ []) ++ b ∷ []) ++ c ∷ []) (due round 1 command.Commit) (said.Committed shown.0) in
       let l : Last = record {
         round = round;
@@ -196,37 +200,79 @@ module _ (seed : ℕ) (all : List (List Line)) where
       (rw (commands-one (blocks_at turn), commands-none 2 refl (blocks_at turn), commands-none 3 refl (blocks_at turn), commands-none 4 refl (blocks_at turn), dues-one round (blocks_at turn))
       (append-nil (freeze_dues round (blocks_at turn) ++ []) ∙ append-nil (freeze_dues round (blocks_at turn))))
 
+-- ---- nothing that is due begins a checked transaction
+
+-- Freezing blocks begins none.
+freeze-plain : (round : ℕ) (blocks : List ℕ) → Every IsPlainDue (freeze_dues round blocks)
+freeze-plain round [] = tt
+freeze-plain round (block ∷ blocks) = (refl, (refl, freeze-plain round blocks))
+
+module _ (seed : ℕ) (all : List (List Line)) where
+  -- what is due for the round, wherever it stands, is plain
+  abbrev IsPlainRound : List Line → Type 0
+  IsPlainRound lines = (round : ℕ) → Every IsPlainDue (dues_in (bench_script all) round lines)
+
+  -- Upkeep is plain.
+  upkeep-plain : (turn : ℕ) → IsPlainRound (upkeep_round turn)
+  upkeep-plain turn round = subst (Every IsPlainDue) (sym (upkeep-dues seed all round turn)) (refl, (refl, (refl, (refl, freeze-plain round (blocks_at turn)))))
+
+  -- A round of writes is plain.
+  write-plain : (turn : ℕ) → IsPlainRound (write_round seed turn)
+  write-plain turn round = (refl, (refl, (refl, (refl, (refl, (refl, (refl, (refl, (refl, (refl, (refl, (refl, (refl, (refl, (refl, (refl, tt))))))))))))))))
+
+  -- The last round is plain.
+  last-plain : IsPlainRound last_round
+  last-plain round = (refl, (refl, (refl, (refl, tt))))
+
+  -- All rounds are plain.
+  all-plain_rounds : (count turn : ℕ) → Every IsPlainRound (flat_map (rounds_at seed) (range_with_len turn count) ++ last_round ∷ [])
+  all-plain_rounds zero turn = (last-plain, tt)
+  all-plain_rounds (suc count) turn = (write-plain turn, by (turn % 16 == 0) (all-plain_rounds count (turn + 1)))
+    where
+      by : (b : Bool) → Every IsPlainRound (flat_map (rounds_at seed) (range_with_len (turn + 1) count) ++ last_round ∷ []) → Every IsPlainRound (((if b then upkeep_round turn ∷ [] else []) ++ flat_map (rounds_at seed) (range_with_len (turn + 1) count)) ++ last_round ∷ [])
+      by true rest = (upkeep-plain turn, rest)
+      by false rest = rest
+
+  -- What is due for plain rounds is plain.
+  dues-plain : (round : ℕ) (rounds : List (List Line)) → Every IsPlainRound rounds → Every IsPlainDue (dues_from seed all round rounds)
+  dues-plain round [] h = tt
+  dues-plain round (lines ∷ rounds) h = every-append IsPlainDue (dues_in (bench_script all) round lines) (dues_from seed all (round + 1) rounds) (h.0 round) (dues-plain (round + 1) rounds h.1)
+
+  -- what is due for the rounds of a generated workload is plain
+  pub generated-plain : (count : ℕ) → Every IsPlainDue (dues_from seed all 1 (flat_map (rounds_at seed) (range_with_len 1 count) ++ last_round ∷ []))
+  generated-plain count = dues-plain 1 (flat_map (rounds_at seed) (range_with_len 1 count) ++ last_round ∷ []) (all-plain_rounds count 1)
+
 -- ---- all rounds
 
-module _ (seed : ℕ) (all : List (List Line)) (tables : List TableDecl) (entries : List Entry) where
+module _ (seed : ℕ) (all : List (List Line)) (tables : List TableDecl) (entries : List Entry) (stands : Stands entries) where
   -- A write round is read in front of what is due behind it.
   write-then : (round turn l : ℕ) (dues : List Due) (asked : List (ℕ × ℕ)) → 1 ≤ turn → round + 1 ≤ l
-      → Onward seed tables entries (round + 1) (4 * (round + 1) + 1) (4 * (turn + 1) + 1) l dues asked
-      → Onward seed tables entries (round + 1) (4 * round + 1) (4 * turn + 1) l (dues_in (bench_script all) round (write_round seed turn) ++ dues) ((turn, 1) ∷ (turn, 2) ∷ (turn, 3) ∷ (turn, 4) ∷ asked)
+      → Onward seed tables entries stands (round + 1) (4 * (round + 1) + 1) (4 * (turn + 1) + 1) l dues asked
+      → Onward seed tables entries stands (round + 1) (4 * round + 1) (4 * turn + 1) l (dues_in (bench_script all) round (write_round seed turn) ++ dues) ((turn, 1) ∷ (turn, 2) ∷ (turn, 3) ∷ (turn, 4) ∷ asked)
   write-then round turn l dues asked low far onward =
-      let d4 : Onward seed tables entries (round + 1) (4 * round + 4) (4 * turn + 4) l (tx_dues seed round turn 4 ++ dues) ((turn, 4) ∷ asked) =
-      writes-then seed tables entries round turn 4 l dues asked (omega arith) (omega arith) low far
+      let d4 : Onward seed tables entries stands (round + 1) (4 * round + 4) (4 * turn + 4) l (tx_dues seed round turn 4 ++ dues) ((turn, 4) ∷ asked) =
+      writes-then seed tables entries stands round turn 4 l dues asked (omega arith) (omega arith) low far
       (λ next out goes. rest-weaker (round + 1) (4 * round + 4 + 1) (4 * turn + 4 + 1) l (omega arith) (omega arith) (omega arith) (omega arith) (onward next out goes)) in
-      let d3 : Onward seed tables entries (round + 1) (4 * round + 3) (4 * turn + 3) l (tx_dues seed round turn 3 ++ (tx_dues seed round turn 4 ++ dues)) ((turn, 3) ∷ (turn, 4) ∷ asked) =
-      writes-then seed tables entries round turn 3 l (tx_dues seed round turn 4 ++ dues) ((turn, 4) ∷ asked) (omega arith) (omega arith) low far
+      let d3 : Onward seed tables entries stands (round + 1) (4 * round + 3) (4 * turn + 3) l (tx_dues seed round turn 3 ++ (tx_dues seed round turn 4 ++ dues)) ((turn, 3) ∷ (turn, 4) ∷ asked) =
+      writes-then seed tables entries stands round turn 3 l (tx_dues seed round turn 4 ++ dues) ((turn, 4) ∷ asked) (omega arith) (omega arith) low far
       (λ next out goes. rest-weaker (round + 1) (4 * round + 3 + 1) (4 * turn + 3 + 1) l (omega arith) (omega arith) (omega arith) (omega arith) (d4 next out goes)) in
-      let d2 : Onward seed tables entries (round + 1) (4 * round + 2) (4 * turn + 2) l (tx_dues seed round turn 2 ++ (tx_dues seed round turn 3 ++ (tx_dues seed round turn 4 ++ dues))) ((turn, 2) ∷ (turn, 3) ∷ (turn, 4) ∷ asked) =
-      writes-then seed tables entries round turn 2 l (tx_dues seed round turn 3 ++ (tx_dues seed round turn 4 ++ dues)) ((turn, 3) ∷ (turn, 4) ∷ asked) (omega arith) (omega arith) low far
+      let d2 : Onward seed tables entries stands (round + 1) (4 * round + 2) (4 * turn + 2) l (tx_dues seed round turn 2 ++ (tx_dues seed round turn 3 ++ (tx_dues seed round turn 4 ++ dues))) ((turn, 2) ∷ (turn, 3) ∷ (turn, 4) ∷ asked) =
+      writes-then seed tables entries stands round turn 2 l (tx_dues seed round turn 3 ++ (tx_dues seed round turn 4 ++ dues)) ((turn, 3) ∷ (turn, 4) ∷ asked) (omega arith) (omega arith) low far
       (λ next out goes. rest-weaker (round + 1) (4 * round + 2 + 1) (4 * turn + 2 + 1) l (omega arith) (omega arith) (omega arith) (omega arith) (d3 next out goes)) in
-      λ next out goes. writes-then seed tables entries round turn 1 l (tx_dues seed round turn 2 ++ (tx_dues seed round turn 3 ++ (tx_dues seed round turn 4 ++ dues))) ((turn, 2) ∷ (turn, 3) ∷ (turn, 4) ∷ asked) (omega arith) (omega arith) low far
+      λ next out goes. writes-then seed tables entries stands round turn 1 l (tx_dues seed round turn 2 ++ (tx_dues seed round turn 3 ++ (tx_dues seed round turn 4 ++ dues))) ((turn, 2) ∷ (turn, 3) ∷ (turn, 4) ∷ asked) (omega arith) (omega arith) low far
       (λ next out goes. rest-weaker (round + 1) (4 * round + 1 + 1) (4 * turn + 1 + 1) l (omega arith) (omega arith) (omega arith) (omega arith) (d2 next out goes))
       next out (subst (λ (ds : List Due). Goes tables next (ds ++ dues) entries) (write-dues seed all round turn) goes)
 
   -- A round of upkeep is read in front of what is due behind it.
   upkeep-then : (round turn t : ℕ) (dues : List Due) (asked : List (ℕ × ℕ))
-      → Onward seed tables entries (round + 1) (4 * (round + 1) + 1) t (round + 1) dues asked
-      → Onward seed tables entries round (4 * (round + 1) + 1) t (round + 1) (dues_in (bench_script all) round (upkeep_round turn) ++ dues) asked
+      → Onward seed tables entries stands (round + 1) (4 * (round + 1) + 1) t (round + 1) dues asked
+      → Onward seed tables entries stands round (4 * (round + 1) + 1) t (round + 1) (dues_in (bench_script all) round (upkeep_round turn) ++ dues) asked
   upkeep-then round turn t dues asked onward next out goes =
-      kept-then seed tables entries command.Prune tt round t (round + 1) (due round 1 command.Observe ∷ due round 1 command.Observe ∷ due round 1 (command.Compact 0) ∷ freeze_dues round (blocks_at turn) ++ dues) asked (omega arith)
-      (kept-then seed tables entries command.Observe tt round t (round + 1) (due round 1 command.Observe ∷ due round 1 (command.Compact 0) ∷ freeze_dues round (blocks_at turn) ++ dues) asked (omega arith)
-      (kept-then seed tables entries command.Observe tt round t (round + 1) (due round 1 (command.Compact 0) ∷ freeze_dues round (blocks_at turn) ++ dues) asked (omega arith)
-      (kept-then seed tables entries (command.Compact 0) tt round t (round + 1) (freeze_dues round (blocks_at turn) ++ dues) asked (omega arith)
-      (blocks-then seed tables entries (blocks_at turn) round t (round + 1) dues asked (omega arith)
+      kept-then seed tables entries stands command.Prune tt round t (round + 1) (due round 1 command.Observe ∷ due round 1 command.Observe ∷ due round 1 (command.Compact 0) ∷ freeze_dues round (blocks_at turn) ++ dues) asked (omega arith)
+      (kept-then seed tables entries stands command.Observe tt round t (round + 1) (due round 1 command.Observe ∷ due round 1 (command.Compact 0) ∷ freeze_dues round (blocks_at turn) ++ dues) asked (omega arith)
+      (kept-then seed tables entries stands command.Observe tt round t (round + 1) (due round 1 (command.Compact 0) ∷ freeze_dues round (blocks_at turn) ++ dues) asked (omega arith)
+      (kept-then seed tables entries stands (command.Compact 0) tt round t (round + 1) (freeze_dues round (blocks_at turn) ++ dues) asked (omega arith)
+      (blocks-then seed tables entries stands (blocks_at turn) round t (round + 1) dues asked (omega arith)
       (λ afterwards outside going. rest-weaker round (4 * (round + 1) + 1) t (round + 1) (omega arith) (omega arith) (omega arith) (omega arith) (onward afterwards outside going))))))
       next out (subst (λ (ds : List Due). Goes tables next (ds ++ dues) entries) (upkeep-dues seed all round turn) goes)
 
@@ -236,8 +282,8 @@ module _ (seed : ℕ) (all : List (List Line)) (tables : List TableDecl) (entrie
 
   -- behind a write round, with upkeep or without
   rounds-then : (upkeep : Bool) (round turn : ℕ) (rounds : List (List Line)) (asked : List (ℕ × ℕ))
-      → ((later : ℕ) → Onward seed tables entries later (4 * later + 1) (4 * (turn + 1) + 1) later (dues_from seed all later (ends rounds)) asked)
-      → Onward seed tables entries round (4 * round + 1) (4 * (turn + 1) + 1) round (dues_from seed all round (ends ((if upkeep then upkeep_round turn ∷ [] else []) ++ rounds))) asked
+      → ((later : ℕ) → Onward seed tables entries stands later (4 * later + 1) (4 * (turn + 1) + 1) later (dues_from seed all later (ends rounds)) asked)
+      → Onward seed tables entries stands round (4 * round + 1) (4 * (turn + 1) + 1) round (dues_from seed all round (ends ((if upkeep then upkeep_round turn ∷ [] else []) ++ rounds))) asked
   rounds-then true round turn rounds asked onward next out goes =
       rest-weaker round (4 * round + 1) (4 * (turn + 1) + 1) round (omega arith) (omega arith) (omega arith) (omega arith)
       (upkeep-then round turn (4 * (turn + 1) + 1) (dues_from seed all (round + 1) (ends rounds)) asked (onward (round + 1)) next out goes)
@@ -245,8 +291,8 @@ module _ (seed : ℕ) (all : List (List Line)) (tables : List TableDecl) (entrie
 
   -- the write rounds, their upkeep and the last round are read as parts, turn by turn
   pub rounds-read : (count round turn : ℕ) → 1 ≤ turn
-      → Onward seed tables entries round (4 * round + 1) (4 * turn + 1) round (dues_from seed all round (ends (flat_map (rounds_at seed) (range_with_len turn count)))) (turns turn count)
-  rounds-read zero round turn low next out goes = last-read seed tables entries round (4 * turn + 1) next out goes
+      → Onward seed tables entries stands round (4 * round + 1) (4 * turn + 1) round (dues_from seed all round (ends (flat_map (rounds_at seed) (range_with_len turn count)))) (turns turn count)
+  rounds-read zero round turn low next out goes = last-read seed tables entries stands round (4 * turn + 1) next out goes
   rounds-read (suc count) round turn low next out goes =
       rest-weaker round (4 * round + 1) (4 * turn + 1) round (omega arith) (omega arith) (omega arith) (omega arith)
       (write-then round turn (round + 1) (dues_from seed all (round + 1) (ends ((if turn % 16 == 0 then upkeep_round turn ∷ [] else []) ++ flat_map (rounds_at seed) (range_with_len (turn + 1) count)))) (turns (turn + 1) count) low (omega arith)

@@ -12,6 +12,7 @@ use Rattle.outcome_spec.specs.Numbers.{commit_numbers_hold, snapshot_numbers_hol
 use Rattle.outcome_spec.specs.Answers.{reads_hold, writes_hold}
 use Rattle.outcome_spec.specs.Conflicts.{conflicts_hold}
 use Rattle.outcome_spec.specs.Upkeep.{freezing_holds, full_holds, exports_hold, upkeep_holds}
+use Rattle.outcome_spec.specs.Stale.{reads_last}
 use Rattle.order_laws.specs.Places.{Rises}
 use Rattle.order_laws.proofs.Dues.{dues-rise}
 use Rattle.order_laws.proofs.Walk.{read-rise}
@@ -22,7 +23,8 @@ use Rattle.bench_spec.specs.Generated.{bench_table, generated}
 use Rattle.bench_laws.proofs.Every.{Every, Has, every-append, all-has}
 use Rattle.bench_laws.proofs.Replies.{IsScanReply, IsExportReply}
 use Rattle.bench_laws.proofs.Parts.{Part, Last, Good, InTurn, Under, wrotes, turn_of, turns, entries_in, entries_of, last_entries}
-use Rattle.bench_laws.proofs.Rounds.{rounds-read}
+use Rattle.bench_laws.proofs.Rounds.{generated-plain, rounds-read}
+use Rattle.bench_laws.proofs.Plain.{all-plain, all-stand}
 
 -- the one table of the workload
 abbrev pub tables : List TableDecl
@@ -52,7 +54,9 @@ none-refused (e ∷ replies) h =
 -- What is known of them.
 pub told-of : (seed size : ℕ) (text : List ℕ) (replies : List Entry) → Explained (generated seed size) text → replies_of (generated seed size) text ≡ Ok replies → was_refused replies ≡ false → Told seed size replies
 told-of seed size text replies explained read unrefused =
-    let r = rounds-read seed (generated seed size).rounds tables replies size 1 1 (omega arith) [] (λ session. refl) (lines_of text, read) in
+    let sound : are_sound (run_of tables replies) ≡ true = subst (λ (es : List Entry). are_sound (run_of tables es) ≡ true) (ap (λ o. unwrap_or (result_ok o) []) read) explained.replies in
+    let plain = all-plain tables (dues_of (generated seed size)) replies (generated-plain seed (generated seed size).rounds size) (lines_of text, read) in
+    let r = rounds-read seed (generated seed size).rounds tables replies (all-stand tables replies plain sound) size 1 1 (omega arith) [] (λ session. refl) (lines_of text, read) in
     record {
       parts = r.parts;
       last = r.last;
@@ -64,7 +68,7 @@ told-of seed size text replies explained read unrefused =
       scan_fits = r.scan_fits;
       export_fits = r.export_fits;
       rises = read-rise tables (dues_of (generated seed size)) (lines_of text) replies (dues-rise (generated seed size)) read;
-      sound = subst (λ (es : List Entry). are_sound (run_of tables es) ≡ true) (ap (λ o. unwrap_or (result_ok o) []) read) explained.replies;
+      sound = sound;
       unrefused = none-refused replies unrefused;
     }
 
@@ -81,25 +85,25 @@ pub record Sound (run : Run) (e : Entry) : Type 0 where
   pub exports : exports_hold run e ≡ true
   pub upkeep : upkeep_holds run e ≡ true
 
--- The nine parts of a conjunction that is true.
-nine : (a b c d e f g h i : Bool) → (a && b && c && d && e && f && g && h && i) ≡ true
+-- The first nine parts of a conjunction that is true.
+nine : (a b c d e f g h i j : Bool) → (a && b && c && d && e && f && g && h && i && j) ≡ true
     → (a ≡ true) × (b ≡ true) × (c ≡ true) × (d ≡ true) × (e ≡ true) × (f ≡ true) × (g ≡ true) × (h ≡ true) × (i ≡ true)
-nine true true true true true true true true true h = (refl, refl, refl, refl, refl, refl, refl, refl, refl)
-nine false b c d e f g h i k = absurd (let never : ⊥ = cc in never)
-nine true false c d e f g h i k = absurd (let never : ⊥ = cc in never)
-nine true true false d e f g h i k = absurd (let never : ⊥ = cc in never)
-nine true true true false e f g h i k = absurd (let never : ⊥ = cc in never)
-nine true true true true false f g h i k = absurd (let never : ⊥ = cc in never)
-nine true true true true true false g h i k = absurd (let never : ⊥ = cc in never)
-nine true true true true true true false h i k = absurd (let never : ⊥ = cc in never)
-nine true true true true true true true false i k = absurd (let never : ⊥ = cc in never)
-nine true true true true true true true true false k = absurd (let never : ⊥ = cc in never)
+nine true true true true true true true true true j h = (refl, refl, refl, refl, refl, refl, refl, refl, refl)
+nine false b c d e f g h i j k = absurd (let never : ⊥ = cc in never)
+nine true false c d e f g h i j k = absurd (let never : ⊥ = cc in never)
+nine true true false d e f g h i j k = absurd (let never : ⊥ = cc in never)
+nine true true true false e f g h i j k = absurd (let never : ⊥ = cc in never)
+nine true true true true false f g h i j k = absurd (let never : ⊥ = cc in never)
+nine true true true true true false g h i j k = absurd (let never : ⊥ = cc in never)
+nine true true true true true true false h i j k = absurd (let never : ⊥ = cc in never)
+nine true true true true true true true false i j k = absurd (let never : ⊥ = cc in never)
+nine true true true true true true true true false j k = absurd (let never : ⊥ = cc in never)
 
 -- each of the replies is sound
 pub sound-at : (seed size : ℕ) (replies : List Entry) (told : Told seed size replies) (e : Entry) → Has e replies → Sound (run_of tables replies) e
 sound-at seed size replies told e has =
     let run = run_of tables replies in
-    let all = nine (commit_numbers_hold run e) (snapshot_numbers_hold run e) (reads_hold run e) (writes_hold run e) (conflicts_hold run e) (freezing_holds run e) (full_holds run e) (exports_hold run e) (upkeep_holds run e)
+    let all = nine (commit_numbers_hold run e) (snapshot_numbers_hold run e) (reads_hold run e) (writes_hold run e) (conflicts_hold run e) (freezing_holds run e) (full_holds run e) (exports_hold run e) (upkeep_holds run e) (reads_last run e)
     (all-has (is_sound run) replies e told.sound has) in
     record { commits = all.0; snapshots = all.1; reads = all.2; writes = all.3; conflicts = all.4; freezes = all.5; full = all.6; exports = all.7; upkeep = all.8 }
 

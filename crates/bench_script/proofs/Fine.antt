@@ -51,8 +51,8 @@ fine_each f a (suc n) each = fine_append (f a) (flat_map f (range_with_len (a + 
     (fine_each f (a + 1) n (λ k low high. each k (omega (arith, low)) (omega (arith, high))))
 
 -- a line that changes a row
-row_own : (session : ℕ) (row : List Cell) → is_within 1 4 session ≡ true → fits bench_columns row ≡ true → (is_within 1 4 session && fits bench_columns row) ≡ true
-row_own session row within fit = ap₂ (λ (a b : Bool). a && b) within fit
+row_own : (session : ℕ) (row : List Cell) → is_within 1 4 session ≡ true → fits bench_columns row ≡ true → (is_within 1 4 session && fits bench_columns row && true) ≡ true
+row_own session row within fit = ap₂ (λ (a b : Bool). a && b && true) within fit
 
 -- the key that a session inserts in a round fits 63 bits
 pub key_few : (round session : ℕ) → round ≤ 4096 → session ≤ 4 → key_of round session < 2 ^ 63
@@ -72,11 +72,11 @@ draw_few seed round session number some = draw_small seed (5 * (key_of round ses
 -- The lines of a transaction are of the workload, and none of them exports.
 transaction_fine : (seed round session : ℕ) → 0 < round → round ≤ 4096 → is_within 1 4 session ≡ true → session ≤ 4 → IsFine (transaction seed round session)
 transaction_fine seed round session some few within small =
-    let begins : (is_within 1 4 session && true) ≡ true = ap (λ (b : Bool). b && true) within in
+    let begins : (is_within 1 4 session && true && true) ≡ true = ap (λ (b : Bool). b && true && true) within in
     let inserts = row_fits (key_of round session) (draw_in seed round session 1) (draw_in seed round session 2) (key_few round session few small) (draw_few seed round session 2 (omega arith)) in
     let updates = row_fits (updated_key round session (draw_in seed round session 3)) (draw_in seed round session 4) (draw_in seed round session 5)
     (old_key_few round session (draw_in seed round session 3) some few small) (draw_few seed round session 5 (omega arith)) in
-    fine_more (line session command.Begin) _ begins refl
+    fine_more (line session (command.Begin false)) _ begins refl
     (fine_more (line session (command.Insert 0 _)) _ (row_own session (row_of (key_of round session) (draw_in seed round session 1) (draw_in seed round session 2)) within inserts) refl
     (fine_more (line session (command.Update 0 _)) _ (row_own session (row_of (updated_key round session (draw_in seed round session 3)) (draw_in seed round session 4) (draw_in seed round session 5)) within updates) refl
     (fine_more (line session command.Commit) [] begins refl fine_none)))
@@ -89,7 +89,7 @@ writes_fine seed round some few = fine_each (transaction seed round) 1 4 (λ q l
 -- The lines that freeze a block are of the workload, and none of them exports.
 freezing_fine : (block : ℕ) → block < 512 → IsFine (freezing block)
 freezing_fine block few =
-    let own : nat_lt block 512 ≡ true = lt-ltb block 512 few in
+    let own : (nat_lt block 512 && true) ≡ true = ap (λ (b : Bool). b && true) (lt-ltb block 512 few) in
     fine_more (line 1 (command.Seal 0 block)) _ own refl (fine_more (line 1 (command.Gather 0 block)) [] own refl fine_none)
 
 -- The lines of a round of upkeep are of the workload, and none of them exports.

@@ -125,7 +125,7 @@ transaction_short seed round session some few small =
     (old_key_few round session (draw_in seed round session 3) some few small) (draw_few seed round session 5 (omega arith)) in
     let inserted = row_of (key_of round session) (draw_in seed round session 1) (draw_in seed round session 2) in
     let updated = row_of (updated_key round session (draw_in seed round session 3)) (draw_in seed round session 4) (draw_in seed round session 5) in
-    short_more (line session command.Begin) _ (word_short session (codes "begin" ∷ []) own (omega arith))
+    short_more (line session (command.Begin false)) _ (word_short session (codes "begin" ∷ []) own (omega arith))
     (short_more (line session (command.Insert 0 inserted)) _ (word_short session (codes "insert" ∷ codes "bench" ∷ map cell_text inserted) own inserts)
     (short_more (line session (command.Update 0 updated)) _ (word_short session (codes "update" ∷ codes "bench" ∷ map cell_text updated) own updates)
     (short_more (line session command.Commit) [] (word_short session (codes "commit" ∷ []) own (omega arith)) short_none)))
@@ -157,7 +157,7 @@ upkeep_short round few =
 -- The lines of the last round are short.
 last_short : IsShort last_round
 last_short =
-    short_more (line 1 command.Begin) _ (own_short (codes "begin" ∷ []) (omega arith))
+    short_more (line 1 (command.Begin false)) _ (own_short (codes "begin" ∷ []) (omega arith))
     (short_more (line 1 (command.Scan 0)) _ (own_short (codes "scan" ∷ codes "bench" ∷ []) (omega arith))
     (short_more (line 1 (command.Export 0)) _ (own_short (codes "export" ∷ codes "bench" ∷ []) (omega arith))
     (short_more (line 1 command.Commit) [] (own_short (codes "commit" ∷ []) (omega arith)) short_none)))

@@ -1,5 +1,5 @@
 -- The lines of a transaction, by its draws.
-use Rattle.std.proofs.Common.{◌≡◌, ℕ, ◌+◌, ◌*◌, ◌-◌, List, [], ◌∷◌, ◌++◌, sym, ap, ap₂, ◌∙◌, append_assoc}
+use Rattle.std.proofs.Common.{◌≡◌, ℕ, ◌+◌, ◌*◌, ◌-◌, List, [], ◌∷◌, ◌++◌, sym, ap, ap₂, ◌∙◌, append_assoc, false}
 use Rattle.cell_model.specs.declared.cell.Cell.{Cell}
 use Rattle.workload_spec.specs.declared.command.Command.TheVariants as command
 use Rattle.workload_spec.specs.declared.script.Line.{Line}
@@ -27,11 +27,11 @@ four old a b c d one two three all e f g h =
 pub transaction_is : (seed round session k n t j k2 n2 t2 : ℕ) (first second : List Cell) (old one two three all : List Line)
     → k ≡ key_of round session → n ≡ draw_in seed round session 1 → t ≡ draw_in seed round session 2 → first ≡ row_of k n t
     → k2 ≡ updated_key round session j → j ≡ draw_in seed round session 3 → n2 ≡ draw_in seed round session 4 → t2 ≡ draw_in seed round session 5 → second ≡ row_of k2 n2 t2
-    → one ≡ old ++ line session command.Begin ∷ [] → two ≡ one ++ line session (command.Insert 0 first) ∷ []
+    → one ≡ old ++ line session (command.Begin false) ∷ [] → two ≡ one ++ line session (command.Insert 0 first) ∷ []
     → three ≡ two ++ line session (command.Update 0 second) ∷ [] → all ≡ three ++ line session command.Commit ∷ []
     → all ≡ old ++ transaction seed round session
 transaction_is seed round session k n t j k2 n2 t2 first second old one two three all key number text row key2 old_draw number2 text2 row2 e f g h =
     four old _ _ _ _ one two three all e f g h
-    ∙ ap₂ (λ (a b : List Cell). old ++ line session command.Begin ∷ line session (command.Insert 0 a) ∷ line session (command.Update 0 b) ∷ line session command.Commit ∷ [])
+    ∙ ap₂ (λ (a b : List Cell). old ++ line session (command.Begin false) ∷ line session (command.Insert 0 a) ∷ line session (command.Update 0 b) ∷ line session command.Commit ∷ [])
     (row_same first k _ n _ t _ row key number text)
     (row_same second k2 _ n2 _ t2 _ row2 (key2 ∙ ap (updated_key round session) old_draw) number2 text2)

@@ -47,7 +47,7 @@ pub(crate) fn last_round(alloc: Global) -> Result<Round, AllocError>
     ensures { IfOk result (λ lines. lines ≡ last_round) }
 {
     let mut lines = Vec::new(alloc);
-    put(&mut lines, KEEPER, Command::Begin)?;
+    put(&mut lines, KEEPER, Command::Begin { checked: false })?;
     put(&mut lines, KEEPER, Command::Scan { table: TABLE })?;
     put(&mut lines, KEEPER, Command::Export { table: TABLE })?;
     put(&mut lines, KEEPER, Command::Commit)?;

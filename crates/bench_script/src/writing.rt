@@ -47,7 +47,7 @@ fn put_transaction(
     let key = others * (draws.draw() % round as u64) + session as u64;
     let (number, text) = (draws.draw(), draws.draw());
     let updated = row_of(alloc, key, number, text)?;
-    put(out, session, Command::Begin)?;
+    put(out, session, Command::Begin { checked: false })?;
     put(
         out,
         session,

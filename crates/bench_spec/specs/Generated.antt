@@ -65,7 +65,7 @@ updated_key round session drawn = writers * (drawn % round) + session
 -- A session's transaction in a round: it inserts a row and updates one.
 abbrev pub transaction : ℕ → ℕ → ℕ → List Line
 transaction seed round session =
-    line session command.Begin
+    line session (command.Begin false)
     ∷ line session (command.Insert 0
     (row_of (key_of round session) (draw_in seed round session 1)
     (draw_in seed round session 2)))
@@ -97,7 +97,7 @@ rounds_at seed round = write_round seed round
 
 -- The last round reads and exports the table.
 abbrev pub last_round : List Line
-last_round = line 1 command.Begin ∷ line 1 (command.Scan 0) ∷ line 1 (command.Export 0) ∷ line 1
+last_round = line 1 (command.Begin false) ∷ line 1 (command.Scan 0) ∷ line 1 (command.Export 0) ∷ line 1
     command.Commit ∷ []
 
 -- the workload of these rounds

@@ -62,7 +62,7 @@ fn act_of(command: Command) -> Option<Act>
     ensures { IfSome result HasKey }
 {
     match command {
-        Command::Begin => Some(Act::Begin),
+        Command::Begin { checked } => Some(Act::Begin { checked }),
         Command::Scan { table } => Some(Act::Scan { table }),
         Command::Insert { table, row } if has_key(&row) => Some(Act::Insert { table, row }),
         Command::Update { table, row } if has_key(&row) => Some(Act::Update { table, row }),

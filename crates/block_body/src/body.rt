@@ -2,7 +2,7 @@
 ghost use Rattle.std.specs.Prelude.{true, false, ◌≡◌, ◌+◌, ◌*◌, ◌<◌, ◌≤◌, ◌^◌, ℕ, None, Some, IfOk};
 ghost use Rattle.std.specs.Prelude.{IfSome, IfErr, OnOk, OnErr, is_some, option_copied, not, map};
 ghost use Rattle.std.specs.Prelude.{count_by, length, if◌then◌else◌};
-ghost use Rattle.undo_chain.specs.Conflict.{conflict_of, other_writer};
+ghost use Rattle.undo_chain.specs.Conflict.{conflict_of, largest, numbers_above, other_writer};
 ghost use Rattle.undo_chain.specs.Lawful.{IsLawful, NoneStampedAbove};
 ghost use Rattle.cell_model.specs.Rows.{Fits};
 ghost use Rattle.block_spec.specs.Fitting.{ChangeFits};
@@ -127,6 +127,16 @@ impl Body {
         match chains::chain_of(&self.chains, slot) {
             Some(chain) => chain.newer(stamp, session),
             None => Newer::Nothing,
+        }
+    }
+
+    /// The largest number of a commit of a slot with a stamp above `stamp`. A move is no commit.
+    pub fn above(&self, slot: u32, stamp: u64) -> Option<u64>
+        ensures { result ≡ largest (numbers_above (slot_in self.now slot).entries stamp) }
+    {
+        match chains::chain_of(&self.chains, slot) {
+            Some(chain) => chain.above(stamp),
+            None => None,
         }
     }
 

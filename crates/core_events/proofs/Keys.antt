@@ -21,32 +21,41 @@ pub small_shard : (key : ℤ) → shard_of key < 8
 small_shard (pos n) = omega arith
 small_shard (negsuc n) = omega arith
 
-module _ (sh : Shape) (e : CoreEvent) (hand : Held) (m : MayRun sh e hand) (own : OwnKey) (t : ℕ) (key : ℤ) (has : HasTable sh t) (owns : OwnsKey sh own t key m.parts)
+module _ (sh : Shape) (e : CoreEvent) (hand : Held) (m : MayRun sh e hand) (t : ℕ) (key : ℤ) (has : HasTable sh t)
     (shard : touches sh e hand (ShardOf t (shard_of key)) ≡ true)
     (bodies : (p : ℕ) → Among p (candidates_in sh hand t key) → touches sh e hand (BodyOf t (block_of p)) ≡ true) where
-  -- the key's shard is in the hand
-  pub the_shard : Has sh hand (ShardOf t (shard_of key))
-  the_shard = has_shard sh e hand m t (shard_of key) has (small_shard key) shard
+  -- The shard of a key that is touched is in the hand,
+  pub shard_there : Has sh hand (ShardOf t (shard_of key))
+  shard_there = has_shard sh e hand m t (shard_of key) has (small_shard key) shard
 
-  -- The slot of a candidate of the key is in the hand.
-  a_slot : (p : ℕ) → Among p (candidates_in sh hand t key) → HasSlot sh hand t p
-  a_slot p a =
-      let x = a_shard sh hand t (shard_of key) the_shard in
-      let here = places_are sh hand m.parts m.agrees t key x.0 x.1 ∙ ap (λ o. candidates_of (shard_from o) key) (sym x.1) in
-      let there = filled_there sh m.parts m.holds.sound t p (m.holds.sound.follows.1.index.filled t p key (subst (Among p) (sym here) a)) in
+  -- its candidates are the core's,
+  pub told_there : (s : Parts) → Agrees hand s → places_at sh s t key ≡ candidates_in sh hand t key
+  told_there s agrees = let x = a_shard sh hand t (shard_of key) shard_there in places_are sh hand s agrees t key x.0 x.1 ∙ ap (λ o. candidates_of (shard_from o) key) (sym x.1)
+
+  -- and so are their slots.
+  pub slots_there : HasSlots sh hand t (candidates_in sh hand t key)
+  slots_there p a =
+      let there = filled_there sh m.parts m.holds.sound t p (m.holds.sound.follows.1.index.filled t p key (subst (Among p) (sym (told_there m.parts m.agrees)) a)) in
       let same = look sh e hand m.parts (BodyOf t (block_of p)) m.covers m.agrees (bodies p a) in
       record {
         body = has_body sh e hand m t (block_of p) there.0 (bodies p a);
         slot = subst (λ o. slot_of p < length (body_from o).slots) (sym same) there.1;
       }
 
+module _ (sh : Shape) (e : CoreEvent) (hand : Held) (m : MayRun sh e hand) (own : OwnKey) (t : ℕ) (key : ℤ) (has : HasTable sh t) (owns : OwnsKey sh own t key m.parts)
+    (shard : touches sh e hand (ShardOf t (shard_of key)) ≡ true)
+    (bodies : (p : ℕ) → Among p (candidates_in sh hand t key) → touches sh e hand (BodyOf t (block_of p)) ≡ true) where
+  -- the key's shard is in the hand
+  pub the_shard : Has sh hand (ShardOf t (shard_of key))
+  the_shard = shard_there sh e hand m t key has shard bodies
+
   -- the slots of the key's candidates are in the hand
   pub the_slots : HasSlots sh hand t (candidates_in sh hand t key)
-  the_slots p a = a_slot p a
+  the_slots = slots_there sh e hand m t key has shard bodies
 
   -- they are the core's
   pub candidates_are : (s : Parts) → Agrees hand s → places_at sh s t key ≡ candidates_in sh hand t key
-  candidates_are s agrees = let x = a_shard sh hand t (shard_of key) the_shard in places_are sh hand s agrees t key x.0 x.1 ∙ ap (λ o. candidates_of (shard_from o) key) (sym x.1)
+  candidates_are = told_there sh e hand m t key has shard bodies
 
   -- the slot of the own write is one of the key's
   pub own_slot : IfSome own.written (HasSlot sh hand t)
@@ -55,6 +64,4 @@ module _ (sh : Shape) (e : CoreEvent) (hand : Held) (m : MayRun sh e hand) (own 
       go : (w : Option ℕ) → own.written ≡ w → IfSome w (HasSlot sh hand t)
       go None is = tt
       go (Some p) is =
-          let x = a_shard sh hand t (shard_of key) the_shard in
-          let here = places_are sh hand m.parts m.agrees t key x.0 x.1 ∙ ap (λ o. candidates_of (shard_from o) key) (sym x.1) in
-          a_slot p (subst (Among p) here ((key_slot sh m.parts m.holds.sound own t key owns).there p is).0)
+          the_slots p (subst (Among p) (candidates_are m.parts m.agrees) ((key_slot sh m.parts m.holds.sound own t key owns).there p is).0)

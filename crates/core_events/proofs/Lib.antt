@@ -8,6 +8,7 @@ pub mod Takes
 pub mod Changing
 pub mod Puts
 pub mod Touched
+pub mod Judging
 pub mod Alone
 pub mod Desks
 pub mod Bodies

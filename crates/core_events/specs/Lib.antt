@@ -5,3 +5,4 @@ pub mod Candidates
 pub mod Puts
 pub mod Reads
 pub mod Freezes
+pub mod Stale

@@ -15,6 +15,7 @@ mod reading;
 mod reads;
 mod sessions;
 mod sharing;
+mod stale;
 mod verdicts;
 mod writes;
 
@@ -30,5 +31,6 @@ pub use reading::{CoreReply, read};
 pub use reads::get;
 pub use sessions::{begin, oldest};
 pub use sharing::shared;
+pub use stale::stale_read;
 pub use verdicts::{judge_change, judge_insert};
 pub use writes::{add_candidate, drop_candidate, install, take_slot};

@@ -6,6 +6,8 @@ pub mod Naming
 pub mod Slots
 pub mod Still
 pub mod Owners
+pub mod Plain
+pub mod Judging
 pub mod Served
 pub mod Added
 pub mod Inserted

@@ -1,9 +1,9 @@
-pub mod Overlays
 pub mod Machines
 pub mod Desks
 pub mod Firsts
 pub mod Begins
 pub mod Aborts
+pub mod Met
 pub mod Commits
 pub mod Sessions
 pub mod Finds

@@ -1,6 +1,7 @@
 pub mod Looks
 pub mod Order
 pub mod Fitness
+pub mod Judged
 pub mod Shards
 pub mod Distinct
 pub mod Frames

@@ -9,3 +9,4 @@ pub mod Parts
 pub mod Frames
 pub mod Words
 pub mod Hall
+pub mod Stale

@@ -12,4 +12,5 @@ pub mod part_laws;
 pub mod slot_laws;
 pub mod snapshot_laws;
 pub mod sound_laws;
+pub mod stale_laws;
 pub mod word_laws;

@@ -10,7 +10,6 @@ use Rattle.core_parts.proofs.Founds.{absorbed, behind_none, low_none, outside_no
 use Rattle.core_laws.proofs.Words.Numbers.{name_at, number_at}
 use Rattle.core_laws.specs.Words.Words.{number_among}
 use Rattle.core_parts.proofs.Numbered.{offered_there}
-use Rattle.core_parts.proofs.Placing.{named_once}
 use Rattle.core_parts.proofs.Spots.{number_is, number_of}
 use Rattle.core_parts.specs.declared.least.Least.{Least}
 use Rattle.core_parts.specs.declared.written.PartKind.TheVariants as kinds

@@ -12,7 +12,6 @@ use Rattle.core_parts.specs.declared.written.PartKind.{PartKind}
 use Rattle.core_laws.specs.Words.Words.{number_among}
 use Rattle.core_parts.specs.Least.{offered, offered_all, offered_name}
 use Rattle.core_parts.specs.Written.{IsFirstSpot, IsLeastOn, name_on}
-use Rattle.core_parts.proofs.Placing.{named_once}
 use Rattle.core_laws.proofs.Words.Numbers.{name_at, number_at}
 use Rattle.core_parts.proofs.Numbered.{offered_there}
 use Rattle.core_parts.proofs.Spots.{spots_rise}

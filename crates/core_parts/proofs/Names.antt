@@ -1,8 +1,8 @@
 -- The names that an event touches are those of the list.
 use Rattle.std.proofs.Common.{◌≡◌, ℕ, zero, suc, ◌+◌, ◌<◌, ◌≤◌, ℤ, Bool, true, false, ◌&&◌, ◌||◌, ◌==◌, List, [], ◌∷◌, ◌++◌, map, Option, None, Some, length, refl, sym, ap, ◌∙◌, arith}
 use mathlib.Core.Logic.{inl, inr}
-use Rattle.std.specs.Prelude.{option_to_list, slice_get}
-use Rattle.std.specs.List.{list_any, range_with_len}
+use Rattle.std.specs.Prelude.{IfSome, option_to_list, slice_get}
+use Rattle.std.specs.List.{flat_map, list_any, range_with_len}
 use Rattle.std.specs.Option.{option_or}
 use Rattle.std.proofs.lemmas.Bool.Decides.{nat_tests}
 use Rattle.std.proofs.lemmas.List.Folds.{list_any-append}
@@ -10,13 +10,17 @@ use Rattle.std.proofs.lemmas.Bool.{or_right}
 use Rattle.block_layout.specs.Place.{block_of}
 use Rattle.core_parts.specs.Hands.{Held, in_hand}
 use Rattle.core_parts.proofs.Telling.{table_of_head, table_of_shard}
-use Rattle.core_parts.specs.Touched.{bodies_at, bodies_written, names_on_key, shards_in, shards_moved, shards_written, sources_moved, targets_moved, touched_names}
+use Rattle.core_parts.specs.Keyed.{IsKeyed}
+use Rattle.core_parts.specs.Touched.{bodies_at, bodies_written, names_got, names_on_key, names_read, shards_in, shards_moved, shards_written, sources_moved, targets_moved, touched_names}
 use Rattle.event_spec.specs.declared.event.Event.TheVariants as event
 use Rattle.event_spec.specs.declared.event.MovePair.{MovePair}
 use Rattle.event_spec.specs.Effects.{CoreEvent}
 use Rattle.event_spec.specs.Lawful.{Among}
 use Rattle.event_spec.specs.Parts.{Name, HeadOf, ShardOf, BodyOf, TheDesk, Shape, below, names, same_name, shard_of, tables_of}
-use Rattle.event_spec.specs.Touched.{held_next, held_places, is_any_head, is_body_moved, is_body_of, is_body_written, is_shard_in, is_shard_moved, is_shard_written, passes_test, touched, touched_by_key, touching}
+use Rattle.event_spec.specs.Newest.{judged_reads}
+use Rattle.isolation_spec.specs.declared.place.Place.{Place}
+use Rattle.isolation_spec.specs.Reads.{ReadSet}
+use Rattle.event_spec.specs.Touched.{held_next, held_places, is_any_head, is_body_moved, is_body_of, is_body_written, is_shard_in, is_shard_moved, is_shard_written, passes_test, touched, touched_by_got, touched_by_key, touched_by_range, touched_by_reads, touching}
 use Rattle.isolation_spec.specs.Contents.{PlaceMap, key_of}
 
 -- whether one of the names is this one
@@ -182,31 +186,58 @@ module _ (sh : Shape) (hand : Held) (name : Name) (a : Among name (names sh)) wh
   then_desk : (ws : List Name) (b : Bool) → any ws name ≡ b → any (ws ++ TheDesk ∷ []) name ≡ (b || same_name TheDesk name)
   then_desk ws b is = any_two ws (TheDesk ∷ []) name ∙ both (any ws name) b (any (TheDesk ∷ []) name) (same_name TheDesk name) is (or_false (same_name TheDesk name))
 
+  -- A name is one of those of keys that were got where one of them touches it.
+  any_got : (ps : List Place) → any (flat_map (names_got sh (in_hand sh hand)) ps) name ≡ list_any (λ place. touched_by_got sh (in_hand sh hand) place name) ps
+  any_got [] = refl
+  any_got (p ∷ ps) =
+      any_two (names_got sh (in_hand sh hand) p) (flat_map (names_got sh (in_hand sh hand)) ps) name
+      ∙ both (any (names_got sh (in_hand sh hand) p) name) (touched_by_got sh (in_hand sh hand) p name) (any (flat_map (names_got sh (in_hand sh hand)) ps) name) (list_any (λ place. touched_by_got sh (in_hand sh hand) place name) ps)
+      (on_key p.table p.key None) (any_got ps)
+
+  -- So it is of reads without ranges.
+  any_read : (o : Option ReadSet) → IfSome o (λ set. set.ranges ≡ []) → any (names_read sh (in_hand sh hand) o) name ≡ touched_by_reads sh (in_hand sh hand) o name
+  any_read None keyed = refl
+  any_read (Some set) keyed =
+      any_got set.places
+      ∙ sym (ap (λ ranges. list_any (λ place. touched_by_got sh (in_hand sh hand) place name) set.places || list_any (λ range. touched_by_range sh (in_hand sh hand) range name) ranges) keyed
+      ∙ or_false (list_any (λ place. touched_by_got sh (in_hand sh hand) place name) set.places))
+
+  -- What a commit is judged by has no range where what it hands in has none.
+  judged_keyed : (writes : PlaceMap ℕ) (reads : Option ReadSet) → IfSome reads (λ set. set.ranges ≡ []) → IfSome (judged_reads writes reads) (λ set. set.ranges ≡ [])
+  judged_keyed [] reads keyed = tt
+  judged_keyed (w ∷ writes) reads keyed = keyed
+
   -- An event touches a name where it is among those that are listed.
-  pub touched_any : (e : CoreEvent) → any (touched_names sh (in_hand sh hand) e) name ≡ touched sh (in_hand sh hand) e name
-  touched_any (event.Begin session) = or_false (same_name TheDesk name)
-  touched_any (event.Get own t key) = on_key t key own.written
-  touched_any (event.Insert own t row) =
+  pub touched_any : (e : CoreEvent) → IsKeyed e → any (touched_names sh (in_hand sh hand) e) name ≡ touched sh (in_hand sh hand) e name
+  touched_any (event.Begin session) keyed = or_false (same_name TheDesk name)
+  touched_any (event.Get own t key) keyed = on_key t key own.written
+  touched_any (event.Insert own t row) keyed =
       behind_head t (names_on_key sh (in_hand sh hand) t (key_of row) (option_or own.written (held_next sh (in_hand sh hand) t))) _
       (on_key t (key_of row) (option_or own.written (held_next sh (in_hand sh hand) t)))
-  touched_any (event.Update own t row) = on_key t (key_of row) own.written
-  touched_any (event.Delete own t key) = on_key t key own.written
-  touched_any (event.Read own t b) = or_false (same_name (BodyOf t b) name)
-  touched_any (event.Commit own) = then_desk (bodies_written own.writes) (is_body_written own.writes name) (any_written own.writes name)
-  touched_any (event.Abort own) =
+  touched_any (event.Update own t row) keyed = on_key t (key_of row) own.written
+  touched_any (event.Delete own t key) keyed = on_key t key own.written
+  touched_any (event.Read own t b) keyed = or_false (same_name (BodyOf t b) name)
+  touched_any (event.Commit own reads) keyed =
+      then_desk (bodies_written own.writes ++ names_read sh (in_hand sh hand) (judged_reads own.writes reads))
+      (is_body_written own.writes name || touched_by_reads sh (in_hand sh hand) (judged_reads own.writes reads) name)
+      (any_two (bodies_written own.writes) (names_read sh (in_hand sh hand) (judged_reads own.writes reads)) name
+      ∙ both (any (bodies_written own.writes) name) (is_body_written own.writes name) (any (names_read sh (in_hand sh hand) (judged_reads own.writes reads)) name)
+      (touched_by_reads sh (in_hand sh hand) (judged_reads own.writes reads) name)
+      (any_written own.writes name) (any_read (judged_reads own.writes reads) (judged_keyed own.writes reads keyed)))
+  touched_any (event.Abort own) keyed =
       then_desk (map HeadOf (tables_of sh) ++ shards_written own.writes ++ bodies_written own.writes) ((is_any_head name || is_shard_written own.writes name) || is_body_written own.writes name)
       (any_two (map HeadOf (tables_of sh) ++ shards_written own.writes) (bodies_written own.writes) name
       ∙ both (any (map HeadOf (tables_of sh) ++ shards_written own.writes) name) (is_any_head name || is_shard_written own.writes name) (any (bodies_written own.writes) name) (is_body_written own.writes name)
       (any_two (map HeadOf (tables_of sh)) (shards_written own.writes) name
       ∙ both (any (map HeadOf (tables_of sh)) name) (is_any_head name) (any (shards_written own.writes) name) (is_shard_written own.writes name) (any_heads sh name a) (any_keys own.writes name))
       (any_written own.writes name))
-  touched_any event.Oldest = or_false (same_name TheDesk name)
-  touched_any (event.Observe t b) = with_head t b
-  touched_any (event.Prune t b oldest) =
+  touched_any event.Oldest keyed = or_false (same_name TheDesk name)
+  touched_any (event.Observe t b) keyed = with_head t b
+  touched_any (event.Prune t b oldest) keyed =
       any_two (HeadOf t ∷ BodyOf t b ∷ []) (shards_in t) name
       ∙ both (any (HeadOf t ∷ BodyOf t b ∷ []) name) (same_name (HeadOf t) name || same_name (BodyOf t b) name) (any (shards_in t) name) (is_shard_in t name) (with_head t b) (any_shards sh t name a)
-  touched_any (event.Look t b) = or_false (same_name (BodyOf t b) name)
-  touched_any (event.Move t ps) =
+  touched_any (event.Look t b) keyed = or_false (same_name (BodyOf t b) name)
+  touched_any (event.Move t ps) keyed =
       then_desk (HeadOf t ∷ [] ++ shards_moved t ps ++ sources_moved t ps ++ targets_moved t ps) (((same_name (HeadOf t) name || is_shard_moved t ps name) || any (sources_moved t ps) name) || any (targets_moved t ps) name)
       (any_two (HeadOf t ∷ [] ++ shards_moved t ps ++ sources_moved t ps) (targets_moved t ps) name
       ∙ ap (λ z. z || any (targets_moved t ps) name)
@@ -215,9 +246,9 @@ module _ (sh : Shape) (hand : Held) (name : Name) (a : Among name (names sh)) wh
       ∙ ap (λ z. z || same_name TheDesk name)
       (or_assoc (same_name (HeadOf t) name || is_shard_moved t ps name) (any (sources_moved t ps) name) (any (targets_moved t ps) name)
       ∙ ap (λ z. (same_name (HeadOf t) name || is_shard_moved t ps name) || z) (any_pairs t ps name))
-  touched_any (event.Seal t b) = with_head t b
-  touched_any (event.Image t b image) = or_false (same_name (BodyOf t b) name)
-  touched_any (event.Thaw t b) = or_false (same_name (BodyOf t b) name)
+  touched_any (event.Seal t b) keyed = with_head t b
+  touched_any (event.Image t b image) keyed = or_false (same_name (BodyOf t b) name)
+  touched_any (event.Thaw t b) keyed = or_false (same_name (BodyOf t b) name)
 
 -- A name that stands at a place of a list is among it.
 among_at : (ns : List Name) (k : ℕ) (w : Name) → slice_get ns k ≡ Some w → Among w ns
@@ -226,8 +257,8 @@ among_at (n ∷ ns) zero w is = inl (let e : n ≡ w = cc in sym e)
 among_at (n ∷ ns) (suc k) w is = inr (among_at ns k w is)
 
 -- An event touches the part of a number where the number's name is one of the list.
-pub touching_any : (sh : Shape) (hand : Held) (e : CoreEvent) (k : ℕ) → list_any (λ w. passes_test (same_name w) (slice_get (names sh) k)) (touched_names sh (in_hand sh hand) e) ≡ touching sh e hand k
-touching_any sh hand e k = go (slice_get (names sh) k) refl
+pub touching_any : (sh : Shape) (hand : Held) (e : CoreEvent) → IsKeyed e → (k : ℕ) → list_any (λ w. passes_test (same_name w) (slice_get (names sh) k)) (touched_names sh (in_hand sh hand) e) ≡ touching sh e hand k
+touching_any sh hand e keyed k = go (slice_get (names sh) k) refl
   where
     never : (ws : List Name) → list_any (λ w. passes_test (same_name w) None) ws ≡ false
     never [] = refl
@@ -239,7 +270,7 @@ touching_any sh hand e k = go (slice_get (names sh) k) refl
         ∙ sym (ap (passes_test (touched sh (in_hand sh hand) e)) is)
     go (Some name) is =
         ap (λ o. list_any (λ w. passes_test (same_name w) o) (touched_names sh (in_hand sh hand) e)) is
-        ∙ touched_any sh hand name (among_at (names sh) k name is) e
+        ∙ touched_any sh hand name (among_at (names sh) k name is) e keyed
         ∙ sym (ap (passes_test (touched sh (in_hand sh hand) e)) is)
 
 -- No event touches a number that no part has.

@@ -6,6 +6,7 @@ use Rattle.std.proofs.lemmas.Bool.Decides.{nat_tests}
 use Rattle.std.specs.Prelude.{slice_get}
 use Rattle.core_parts.specs.Hands.{Held, in_hand}
 use Rattle.core_parts.specs.declared.least.Least.{Least}
+use Rattle.core_parts.specs.Keyed.{IsKeyed}
 use Rattle.core_parts.specs.Least.{offered_all}
 use Rattle.core_parts.specs.Touched.{touched_names}
 use Rattle.core_parts.proofs.Names.{touching_any, touching_beyond}
@@ -15,14 +16,14 @@ use Rattle.event_spec.specs.Parts.{Shape, names, same_name}
 use Rattle.event_spec.specs.Touched.{passes_test, touching}
 use Rattle.hall_rule.specs.Hands.{IsNext}
 
-module _ (sh : Shape) (hand : Held) (e : CoreEvent) (from : ℕ) (least : Least)
+module _ (sh : Shape) (hand : Held) (e : CoreEvent) (keyed : IsKeyed e) (from : ℕ) (least : Least)
     (is : least ≡ offered_all sh (touched_names sh (in_hand sh hand) e) (record { from = from; best = None })) where
   -- the least number that is offered is the next part of all that the event touches
   pub whole : IsNext (touching sh e hand) from (length (names sh)) least.best
   whole = subst (λ (l : Least). IsNext (touching sh e hand) from (length (names sh)) l.best) (sym is)
       (next_same (λ k. list_any (λ w. passes_test (same_name w) (slice_get (names sh) k)) (touched_names sh (in_hand sh hand) e)) (touching sh e hand) from (length (names sh))
       (offered_all sh (touched_names sh (in_hand sh hand) e) (record { from = from; best = None })).best
-      (touching_any sh hand e)
+      (touching_any sh hand e keyed)
       (least_is_next sh from (touched_names sh (in_hand sh hand) e)))
 
   -- it is the next in the hand where it is within

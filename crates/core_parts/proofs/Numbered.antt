@@ -1,13 +1,13 @@
 -- Offered numbers of names, and the least of them.
 use Rattle.std.proofs.Common.{◌≡◌, ◌≢◌, ◌⊎◌, ℕ, zero, suc, ◌+◌, ◌<◌, ◌≤◌, Bool, true, false, cond, ◌&&◌, ◌||◌, List, [], ◌∷◌, ◌++◌, map, Option, None, Some, length, nat_le, nat_lt, refl, sym, ap, subst, ◌∙◌, arith}
 use mathlib.Core.Logic.{inl, inr}
-use Rattle.std.specs.Prelude.{fold, option_map, slice_get}
+use Rattle.std.specs.Prelude.{fold, slice_get}
 use Rattle.std.specs.List.{list_any, range_with_len}
 use Rattle.std.specs.Option.{option_map_or}
 use Rattle.std.proofs.lemmas.Bool.Decides.{nat_tests}
 use Rattle.std.proofs.lemmas.List.Sums.{fold-append}
 use Rattle.std.proofs.lemmas.Bool.{or_from, or_right, or_left}
-use Rattle.core_parts.proofs.Placing.{NamedOnce, named_once, number_less}
+use Rattle.core_parts.proofs.Placing.{named_once, number_less}
 use Rattle.core_parts.specs.declared.least.Least.{Least}
 use Rattle.core_laws.proofs.Words.Numbers.{name_at, number_at}
 use Rattle.core_laws.specs.Words.Words.{number_among}

@@ -1,13 +1,12 @@
 -- Parts by name and by number, in a hand and in a state.
-use Rattle.std.proofs.Common.{◌≡◌, ℕ, zero, suc, ◌+◌, ◌<◌, Bool, true, false, cond, List, [], ◌∷◌, Option, Some, length, set, refl, sym, ap, ◌∙◌, arith}
+use Rattle.std.proofs.Common.{◌≡◌, ℕ, zero, suc, ◌<◌, Bool, true, false, cond, List, [], ◌∷◌, Option, Some, length, set, refl, sym, ap, ◌∙◌, arith}
 use mathlib.Core.Logic.{inl, inr}
 use Rattle.std.specs.Prelude.{slice_get}
 use Rattle.core_parts.specs.Hands.{Held, in_hand, laid_at}
 use Rattle.core_laws.proofs.Events.States.{name_is}
-use Rattle.event_spec.specs.declared.part.Part.TheVariants as part
 use Rattle.event_spec.specs.Lawful.{Among}
 use Rattle.event_spec.specs.Parts.{CorePart, Parts, Shape, Name, same_name, names, part_named, held_named}
-use Rattle.core_laws.proofs.Frames.Distinct.{part_is, stands_once}
+use Rattle.core_laws.proofs.Frames.Distinct.{stands_once}
 use Rattle.core_laws.proofs.Frames.Looks.{got_among, name_self, true_false, within}
 use Rattle.hall_rule.specs.Hands.{Agrees}
 

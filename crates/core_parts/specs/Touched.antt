@@ -1,14 +1,18 @@
 -- The names of the parts that an event touches, as a list.
-use Rattle.std.specs.Prelude.{ℕ, ℤ, List, [], ◌∷◌, ◌++◌, Option, map, option_to_list}
+use Rattle.std.specs.Prelude.{ℕ, ℤ, List, [], ◌∷◌, ◌++◌, Option, None, Some, map, option_to_list}
+use Rattle.std.specs.List.{flat_map}
 use Rattle.std.specs.Option.{option_or}
 use Rattle.block_layout.specs.Place.{block_of}
 use Rattle.event_spec.specs.declared.event.Event.TheVariants as event
 use Rattle.event_spec.specs.declared.event.MovePair.{MovePair}
 use Rattle.event_spec.specs.Effects.{CoreEvent}
+use Rattle.event_spec.specs.Newest.{judged_reads}
 use Rattle.event_spec.specs.Parts.{CorePart, Name, HeadOf, ShardOf, BodyOf, TheDesk, Shape, below}
 use Rattle.event_spec.specs.Parts.{shard_of, tables_of}
 use Rattle.event_spec.specs.Touched.{held_next, held_places}
 use Rattle.isolation_spec.specs.Contents.{PlaceMap, key_of}
+use Rattle.isolation_spec.specs.declared.place.Place.{Place}
+use Rattle.isolation_spec.specs.Reads.{ReadSet}
 
 -- the bodies of places of a table
 abbrev pub bodies_at : ℕ → List ℕ → List Name
@@ -42,6 +46,15 @@ module _ (shape : Shape) (held : Name → Option CorePart) where
       ShardOf table (shard_of key) ∷ [] ++ bodies_at table (option_to_list place)
       ++ bodies_at table (held_places shape held table key)
 
+  -- of reads without ranges: the shards of the keys that were got, and the bodies of their
+  -- candidates
+  abbrev pub names_got : Place → List Name
+  names_got place = names_on_key place.table place.key None
+
+  abbrev pub names_read : Option ReadSet → List Name
+  names_read None = []
+  names_read (Some reads) = flat_map names_got reads.places
+
   abbrev pub touched_names : CoreEvent → List Name
   touched_names (event.Begin session) = TheDesk ∷ []
   touched_names (event.Get own table key) = names_on_key table key own.written
@@ -51,7 +64,8 @@ module _ (shape : Shape) (held : Name → Option CorePart) where
   touched_names (event.Update own table row) = names_on_key table (key_of row) own.written
   touched_names (event.Delete own table key) = names_on_key table key own.written
   touched_names (event.Read own table block) = BodyOf table block ∷ []
-  touched_names (event.Commit own) = bodies_written own.writes ++ TheDesk ∷ []
+  touched_names (event.Commit own reads) =
+      bodies_written own.writes ++ names_read (judged_reads own.writes reads) ++ TheDesk ∷ []
   touched_names (event.Abort own) =
       map HeadOf (tables_of shape) ++ shards_written own.writes ++ bodies_written own.writes
       ++ TheDesk ∷ []

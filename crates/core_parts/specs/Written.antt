@@ -39,7 +39,7 @@ AreWritten kind writes spots = IsPermutation (names_written kind writes) (map (n
 
 -- the rows that a transaction wrote, where the event ends it
 abbrev pub ended : CoreEvent → PlaceMap ℕ
-ended (event.Commit own) = own.writes
+ended (event.Commit own reads) = own.writes
 ended (event.Abort own) = own.writes
 ended _ = []
 

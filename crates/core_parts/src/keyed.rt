@@ -12,7 +12,8 @@ use event_spec::Event;
 use std::alloc::Global;
 use std::marker::Model;
 
-/// An event of the core, whose row, if it has one, has a key of 64 bits. Contracts see the event.
+/// An event of the core, whose row, if it has one, has a key of 64 bits, and whose reads, if it
+/// hands in any, have no range. Contracts see the event.
 #[derive(Drop)]
 pub struct KeyedEvent {
     event: Event<Gathered>,
@@ -45,7 +46,7 @@ impl Model for KeyedEvent {
 }
 
 impl KeyedEvent {
-    /// An event whose row has a key of 64 bits.
+    /// An event whose row has a key of 64 bits, and whose reads have no range.
     pub fn new(event: Event<Gathered>) -> KeyedEvent
         requires { IsKeyed event }
         ensures { result ≡ event }
@@ -53,8 +54,8 @@ impl KeyedEvent {
         KeyedEvent { event, found: None }
     }
 
-    /// An event whose row has a key of 64 bits. Where it ends a transaction, the parts that the
-    /// transaction wrote are found at once, so that it is soon told which of them comes next.
+    /// The same; where the event ends a transaction, the parts that the transaction wrote are found
+    /// at once, so that it is soon told which of them comes next.
     pub fn ending(alloc: Global, event: Event<Gathered>) -> KeyedEvent
         requires { IsKeyed event }
         ensures { result ≡ event }
@@ -107,7 +108,7 @@ fn found_of(alloc: Global, event: &Event<Gathered>) -> Option<Box<Found>>
     ensures { IfSome result (λ found. AreFound (ended event.now) found.value) }
 {
     let (writes, with_shards) = match event {
-        Event::Commit { own } => (&own.writes, false),
+        Event::Commit { own, .. } => (&own.writes, false),
         Event::Abort { own } => (&own.writes, true),
         _ => return None,
     };

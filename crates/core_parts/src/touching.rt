@@ -2,13 +2,15 @@
 ghost use Rattle.std.specs.Prelude.{◌≡◌, ◌<◌, [], ◌∷◌, ◌++◌, IfSome, None, length, map};
 ghost use Rattle.std.specs.Option.{option_map_or};
 ghost use Rattle.core_parts.specs.Hands.{in_hand};
+ghost use Rattle.core_parts.specs.Keyed.{IsKeyed};
 ghost use Rattle.core_parts.specs.Least.{offered_all};
-ghost use Rattle.core_parts.specs.Touched.{bodies_written, names_on_key, shards_moved};
+ghost use Rattle.core_parts.specs.Touched.{bodies_written, names_on_key, names_read, shards_moved};
 ghost use Rattle.core_parts.specs.Touched.{shards_written, sources_moved, targets_moved};
 ghost use Rattle.core_parts.specs.Touched.{touched_names};
 ghost use Rattle.core_parts.specs.Written.{AreWritten};
 ghost use Rattle.core_parts.specs.declared.written.PartKind.TheVariants as kinds;
 ghost use Rattle.event_spec.specs.Judged.{next_place};
+ghost use Rattle.event_spec.specs.Newest.{judged_reads};
 ghost use Rattle.event_spec.specs.Parts.{HeadOf, TheDesk, head_from, shard_from, tables_of};
 ghost use Rattle.event_spec.specs.Touched.{held_next, held_places, touching};
 ghost use Rattle.hall_rule.specs.Hands.{IsNext};
@@ -26,7 +28,7 @@ use crate::shape::{Shape, shard_of};
 use crate::written::{PartKind, Spots};
 use block_body::key_of;
 use block_layout::SlotId;
-use event_spec::{Event, MovePair, OwnWrites, Part};
+use event_spec::{Event, MovePair, OwnReads, OwnWrites, Part};
 use hall_rule::Hand;
 use key_index::Index;
 
@@ -57,8 +59,9 @@ pub fn next_touched(
 
 /// Offers the numbers of all parts that the event touches.
 fn offer_touched(shape: &Shape, least: &mut Least, event: &KeyedEvent, held: &Hand<CorePart>)
-    ensures { least.new ≡ offered_all shape.now
+    ensures offered { least.new ≡ offered_all shape.now
         (touched_names shape.now (in_hand shape.now held.now) event.now) least.old }
+    ensures keyed { IsKeyed event.now }
 {
     match event.event() {
         Event::Begin { .. } | Event::Oldest => offer_desk(shape, least),
@@ -76,8 +79,9 @@ fn offer_touched(shape: &Shape, least: &mut Least, event: &KeyedEvent, held: &Ha
         Event::Delete { own, table, key } => {
             offer_on_key(shape, least, held, *table, *key, own.written);
         }
-        Event::Commit { own } => {
+        Event::Commit { own, reads } => {
             offer_found(shape, least, PartKind::Body, &own.writes, event.bodies());
+            offer_read(shape, least, held, &own.writes, reads);
             offer_desk(shape, least);
         }
         Event::Abort { own } => {
@@ -116,6 +120,29 @@ fn offer_on_key(
     offer_shard(shape, least, table, shard_of(key));
     offer_place(shape, least, table, place);
     offer_ascending(shape, least, table, candidates(shape, held, table, key));
+}
+
+/// Offers the parts by which a commit is judged: for each key that its transaction got, the shard
+/// and the bodies of the candidates. A commit without writes is judged by none.
+fn offer_read(
+    shape: &Shape,
+    least: &mut Least,
+    held: &Hand<CorePart>,
+    writes: &OwnWrites,
+    reads: &Option<OwnReads>,
+)
+    ensures { least.new ≡ offered_all shape.now
+        (names_read shape.now (in_hand shape.now held.now) (judged_reads writes.now reads.now))
+        least.old }
+{
+    if writes.by_row().is_empty() {
+        return;
+    }
+    if let Some(reads) = reads {
+        for place in reads.places().iter() {
+            offer_on_key(shape, least, held, place.table, place.key, None);
+        }
+    }
 }
 
 /// Offers the parts of an abort, of which the shards and the bodies may have been found.

@@ -1,22 +1,28 @@
 //! A commit, body by body.
-ghost use Rattle.std.specs.Prelude.{◌≡◌, ℕ, [], length};
+ghost use Rattle.std.specs.Prelude.{◌≡◌, ◌<◌, ℕ, [], All, Option, length};
 ghost use Rattle.block_spec.specs.Bodies.{committed_in, slot_in};
-ghost use Rattle.core_sweeps.specs.CommitSteps.{IsStamped};
-ghost use Rattle.core_parts.specs.Hands.{Has, Held, Makes, MayRun, after};
+ghost use Rattle.core_sweeps.specs.CommitSteps.{IsStamped, MayCommit};
+ghost use Rattle.core_parts.specs.Hands.{Has, Held, Makes, after};
 ghost use Rattle.core_sweeps.specs.SweepSteps.{body_changed, body_in};
 ghost use Rattle.event_spec.specs.declared.event.Event.TheVariants as event;
 ghost use Rattle.event_spec.specs.declared.reply.Reply.TheVariants as reply;
+ghost use Rattle.event_spec.specs.Effects.{writes_table};
 ghost use Rattle.event_spec.specs.Parts.{BodyOf, names};
+ghost use Rattle.isolation_spec.specs.Reads.{ReadSet};
+ghost use Rattle.txn_desk.specs.Marks.{is_marked};
 ghost use Rattle.undo_chain.specs.Lawful.{NoneStampedAbove};
 
 use core_parts::{CorePart, Shape, lay_body, lay_desk, take_body, take_desk};
 use event_spec::OwnTransaction;
 use hall_rule::Hand;
+use txn_desk::TableMarks;
 
 /// Commits what the transaction wrote, and ends it. Tells the commit's number, if it has writes.
+/// None of its reads may be stale.
 pub fn commit(shape: &Shape, held: &mut Hand<CorePart>, own: &OwnTransaction) -> Option<u64>
-    requires { MayRun shape.now (event.Commit own.now) held.old }
-    ensures { Makes shape.now (event.Commit own.now) held.old held.new (reply.Committed result) }
+    requires { (reads : Option ReadSet) × MayCommit shape.now own.now reads held.old }
+    ensures { (reads : Option ReadSet) → MayCommit shape.now own.now reads held.old
+        → Makes shape.now (event.Commit own.now reads) held.old held.new (reply.Committed result) }
 {
     let mut desk = take_desk(shape, held);
     if own.writes.by_row().is_empty() {
@@ -24,10 +30,23 @@ pub fn commit(shape: &Shape, held: &mut Hand<CorePart>, own: &OwnTransaction) ->
         lay_desk(shape, held, desk);
         return None;
     }
-    let committed = desk.commit(own.session);
+    let committed = desk.commit(own.session, &tables_written(own));
     lay_desk(shape, held, desk);
     stamp_all(shape, held, own, committed.stamp, committed.number);
     Some(committed.number)
+}
+
+/// The tables that the transaction wrote.
+fn tables_written(own: &OwnTransaction) -> TableMarks
+    requires { All (λ write. write.0.table < 16) own.now.writes }
+    ensures { (table : ℕ) → table < 16
+        → is_marked result table ≡ writes_table own.now.writes table }
+{
+    let mut tables = TableMarks::none();
+    for (row, _) in own.writes.by_row().iter() {
+        tables.mark(row.table);
+    }
+    tables
 }
 
 /// Stamps what the transaction wrote, body by body.
@@ -38,9 +57,11 @@ fn stamp_all(
     stamp: u64,
     number: u64,
 )
-    requires { (old : Held) × IsStamped shape.now own.now stamp number old held.old [] }
-    ensures { (old : Held) → IsStamped shape.now own.now stamp number old held.old []
-        → IsStamped shape.now own.now stamp number old held.new own.now.writes }
+    requires { (reads : Option ReadSet) × (old : Held)
+        × IsStamped shape.now own.now reads stamp number old held.old [] }
+    ensures { (reads : Option ReadSet) (old : Held)
+        → IsStamped shape.now own.now reads stamp number old held.old []
+        → IsStamped shape.now own.now reads stamp number old held.new own.now.writes }
 {
     for (row, place) in own.writes.by_row().iter() {
         stamp_body(

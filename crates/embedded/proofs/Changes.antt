@@ -6,9 +6,9 @@ use Rattle.std.proofs.lemmas.Bool.Decides.{Decides-int_eq}
 use Rattle.std.proofs.lemmas.List.Sums.{fold-append}
 use Rattle.std.specs.Ordering.{match_ordering}
 use Rattle.block_spec.specs.Slots.{Row}
-use Rattle.core_laws.proofs.Following.Machines.{state-order}
-use Rattle.core_laws.proofs.Following.Overlays.{at-insert, at-laid_over, order-insert, over}
-use Rattle.event_spec.specs.Follows.{InOrder}
+use Rattle.isolation_laws.proofs.States.{state-order}
+use Rattle.isolation_laws.proofs.Overlays.{at-insert, at-laid_over, order-insert, over}
+use Rattle.isolation_spec.specs.Order.{InOrder}
 use Rattle.isolation_laws.proofs.Rows.{is_place-of}
 use Rattle.isolation_spec.specs.Contents.{History, State, WriteSet, at_place, contents_of, is_place, key_of, laid_over, place_at, place_cmp, place_of, state_at}
 use Rattle.isolation_spec.specs.declared.place.Place.{Place}
@@ -107,7 +107,7 @@ stands_behind before later es k v told adds =
 
 -- a commit of such writes has a number
 pub is_numbered : (store : StoreView) (old new : Session) (commits : History) (es : WriteSet) (k : Place) (v : Option Row) (told : Option ℕ)
-    → IsOpen store old commits (insert_entry place_cmp es k v) → Commits store old new told → IsSome told
+    → IsOpen store old commits (insert_entry place_cmp es k v) → Commits store old new (Ok told) → IsSome told
 is_numbered store old new commits es k v told open' done =
     let adds = done commits (insert_entry place_cmp es k v) open' in
     ap is_some (stands_behind adds.before (commits_seen store new) es k v told adds.adds).1
@@ -154,7 +154,7 @@ pub finds_changes : {E : Type 0} (store : StoreView) (one a f g old two r s : Se
     → IsSession store a → key_of row ≡ key_of first → key_of second ≡ key → key_of first ≢ key
     → Opens store one a began
     → FindsAll {E = E} store f (commits_seen store a) (wrote (place_of table first) (place_of table second) first second row) table (Ok own)
-    → Commits store f g (Some committed)
+    → Commits store f g (Ok (Some committed))
     → HasMore (commits_seen store g) (commits_seen store two) → GoesOn (seen old) (seen two)
     → Opens store two r sees
     → FindsRows {E = E} store r s table (Ok other)
@@ -201,7 +201,7 @@ finds_changes {E = E} store one a f g old two r s table key first second row own
     w : WriteSet
     w = wrote kept dropped first second row
 
-    adds : Adds store f g w (Some committed)
+    adds : Adds store f g commits w (Some committed)
     adds = done commits w found.is_open
 
     there : (commits_seen store g ≡ adds.before ++ w ∷ []) × (Some committed ≡ Some (length (commits_seen store g)))

@@ -50,7 +50,7 @@ found_there store old new table key row found is finds commits own open' =
 
 module _ (store : StoreView) (place : Place) (row : Row) where
   -- where the transaction wrote the row, its commit has a number
-  pub numbered : (old new : Session) (commits : History) (told : Option ℕ) → IsOpen store old commits (alone place row) → Commits store old new told → IsSome told
+  pub numbered : (old new : Session) (commits : History) (told : Option ℕ) → IsOpen store old commits (alone place row) → Commits store old new (Ok told) → IsSome told
   numbered old new commits told open' done = ap is_some ((done commits (alone place row) open').adds.1)
 
   -- the transaction reads the row
@@ -66,13 +66,13 @@ module _ (store : StoreView) (place : Place) (row : Row) where
       none (w ∷ ws) empty = absurd (omega (arith, empty))
 
   -- The other's transaction sees the row's commit, and reads what it and those behind it left.
-  pub handed_over : (one a b old two c d : Session) (own other : Option Row) (committed sees : ℕ)
+  pub handed_over : (one a b old two c d : Session) (commits : History) (own other : Option Row) (committed sees : ℕ)
       → HasMore (commits_seen store one) (commits_seen store a) → own ≡ Some row
-      → Adds store a b (alone place row) (Some committed)
+      → Adds store a b commits (alone place row) (Some committed)
       → HasMore (commits_seen store b) (commits_seen store two) → HasMore (commits_seen store old) (commits_seen store two) → Opens store two c sees
       → IsOpen store d (commits_seen store c) [] → other ≡ at_place (rows_seen (commits_seen store c) []) place
       → HandsOver store one old d place row (record { own = own; committed = committed; sees = sees; other = other })
-  handed_over one a b old two c d own other committed sees on read adds met kept begun stays reads = record {
+  handed_over one a b old two c d commits own other committed sees on read adds met kept begun stays reads = record {
     before = adds.before;
     later = more.0;
     own = read;
@@ -111,14 +111,14 @@ module _ (store : StoreView) (place : Place) (row : Row) where
 -- All of it, of what each call told.
 pub hands : {E : Type 0} (store : StoreView) (one a b c d old two e f : Session) (table : ℕ) (key : ℤ) (row : Row) (own other : Option Row) (first committed sees : ℕ)
     → key_of row ≡ key → Opens store one a first → Inserts store a b table row → FindsRow {E = E} store b c table key (Ok own)
-    → Commits store c d (Some committed) → HasMore (commits_seen store d) (commits_seen store two) → GoesOn (seen old) (seen two)
+    → Commits store c d (Ok (Some committed)) → HasMore (commits_seen store d) (commits_seen store two) → GoesOn (seen old) (seen two)
     → Opens store two e sees → FindsRow {E = E} store e f table key (Ok other)
     → HandsOver store one old f (place_of table row) row (record { own = own; committed = committed; sees = sees; other = other })
 hands store one a b c d old two e f table key row own other first committed sees is begun inserts finds done met seen_on begun_too finds_too =
     let put = inserts (commits_seen store a) [] begun.is_open in
     let found = found_there store b c table key row own is finds (commits_seen store a) (alone (place_of table row) row) put in
     let other_found = found_there store e f table key row other is finds_too (commits_seen store e) [] begun_too.is_open in
-    handed_over store (place_of table row) row one c d old two e f own other committed sees
+    handed_over store (place_of table row) row one c d old two e f (commits_seen store a) own other committed sees
     (more_again (commits_seen store one) (commits_seen store a) (commits_seen store c) begun.goes_on found.0.has.sees)
     (own_read store (place_of table row) row (commits_seen store a) own found.1)
     (done (commits_seen store a) (alone (place_of table row) row) found.0)

@@ -2,3 +2,5 @@ mod Changes
 mod Handing
 mod Rows
 mod Rooms
+mod Plain
+mod Tries

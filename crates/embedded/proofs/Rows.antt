@@ -66,7 +66,7 @@ unchanged rows (e ∷ es) q none =
     let parts = neither (is_place q e.0) e.1 (at_place es q) none in
     unchanged (with_write rows e.0 e.1) es q parts.1 ∙ elsewhere rows e.0 q e.1 parts.0
 
-stays : (rows : State) (later : History) (q : Place) → IsUnwritten q later → at_place (fold laid_over rows later) q ≡ at_place rows q
+pub stays : (rows : State) (later : History) (q : Place) → IsUnwritten q later → at_place (fold laid_over rows later) q ≡ at_place rows q
 stays rows [] q none = refl
 stays rows (own ∷ later) q none =
     stays (laid_over rows own) later q (All-tail (λ w. writes_place q w ≡ false) own later none)

@@ -90,7 +90,8 @@ pub fn change_rows<R: Wait>(
     store.update(rt, one, table, changed)?;
     store.delete(rt, one, table, key)?;
     let own = store.scan_uncounted(rt, one, table)?;
-    let committed = store.commit(rt, one).unwrap();
+    let stood = store.commit(rt, one).unwrap();
+    let committed = stood.unwrap();
     store.meet(one, two);
     let sees = store.begin(rt, two).unwrap();
     let other = store.scan_uncounted(rt, two, table)?;

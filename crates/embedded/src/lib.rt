@@ -19,6 +19,7 @@ use std::sync::Wait;
 use thiserror::Error;
 
 pub mod changing;
+pub mod checking;
 #[cfg(test)]
 mod tests;
 
@@ -122,8 +123,9 @@ pub fn hand_over<R: Wait>(
     store.begin(rt, one).unwrap();
     store.insert(rt, one, table, row)?;
     let own = store.get(rt, one, table, key)?;
-    // The transaction wrote, so its commit has a number.
-    let committed = store.commit(rt, one).unwrap();
+    // The transaction is plain, so its commit stands. It wrote, so the commit has a number.
+    let stood = store.commit(rt, one).unwrap();
+    let committed = stood.unwrap();
     store.meet(one, two);
     let sees = store.begin(rt, two).unwrap();
     let other = store.get(rt, two, table, key)?;

@@ -1,15 +1,17 @@
-//! Rows are handed over and changed in new stores.
+//! Rows are handed over and changed in new stores, and inserted where a watched key has none.
 ghost use Rattle.std.specs.Prelude.{◌≡◌, IfOk, length, true};
 ghost use Rattle.isolation_spec.specs.Contents.{key_of};
 ghost use Rattle.shared_store.specs.Open.{IsAtRest};
-ghost use Rattle.shared_store.specs.Store.{IsFree, IsSession, shape_in};
+ghost use Rattle.shared_store.specs.Store.{HasRoomFor, IsFree, IsSession, shape_in};
 ghost use Rattle.workload_spec.specs.Valid.{fits_table};
 
 use crate::changing::change_rows;
-use crate::hand_over;
+use crate::checking::{Tried, insert_unless, try_in_open};
+use crate::{hand_over, has_room};
 use cell_model::{Bytes, Cell, Column, Kind, Row, Schema, TableDecl, are_named};
 use shared_store::{Built, Session, Store};
 use std::alloc::Global;
+use std::sync::Wait;
 use std::test::Fail;
 
 /// A new store, and its two sessions.
@@ -117,5 +119,57 @@ fn rows_are_changed(rt: HostRuntime) -> Result<(), Fail> {
     assert_eq!(rt; found.sees, 1);
     assert_eq!(rt; found.own.len(), 1);
     assert_eq!(rt; found.other.len(), 1);
+    Ok(())
+}
+
+/// Inserts a row and deletes it in one transaction, which is commit 1.
+fn insert_and_delete<R: Wait>(
+    rt: &R,
+    store: &Store,
+    session: &mut Session,
+    row: Row,
+) -> Result<(), Fail>
+    requires session { IsSession store.now session.old }
+    requires room { HasRoomFor 5 session.old }
+    requires rests { IsAtRest session.old }
+    requires tables { length (shape_in store.now).tables ≡ 1 }
+    requires fits { fits_table (shape_in store.now).tables 0 row ≡ true }
+{
+    store.begin(rt, session).unwrap();
+    store.insert(rt, session, 0, row)?;
+    if session.busy() {
+        store.delete(rt, session, 0, 7)?;
+    }
+    if session.busy() {
+        store.commit(rt, session)?;
+    }
+    Ok(())
+}
+
+/// Another session writes the watched key 7 while a checked transaction is open that found no row
+/// there: its commit is refused, and the next transaction's is commit 2. Then the key 8 has a row.
+#[test]
+fn a_watched_key_is_written_meanwhile(rt: HostRuntime) -> Result<(), Fail> {
+    let alloc = rt.alloc();
+    let Opened {
+        store,
+        mut one,
+        mut two,
+    } = open(alloc)?;
+    let rival = row_of(alloc, &store, 7, 1)?;
+    let row = row_of(alloc, &store, 8, 1)?;
+    let copy = row.clone()?;
+    if !has_room(&one, 5) || !has_room(&two, 5) {
+        return Err(Fail::from("no room"));
+    }
+    store.begin_checked(&rt, &mut one).unwrap();
+    insert_and_delete(&rt, &store, &mut two, rival)?;
+    let first = try_in_open(&rt, &store, &mut one, 0, 7, copy)?;
+    assert!(rt; matches!(first, Tried::Overtaken));
+    let second = insert_unless(&rt, &store, &mut one, 0, 7, &row, 1)?;
+    assert!(rt; matches!(second, Tried::Inserted(2)));
+    let third = insert_unless(&rt, &store, &mut one, 0, 8, &row, 1)?;
+    assert!(rt; matches!(third, Tried::Found(_)));
+    assert_eq!(rt; one.events(), 12);
     Ok(())
 }

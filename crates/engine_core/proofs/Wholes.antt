@@ -56,6 +56,7 @@ memory_is (reply.Refused fault) e = cc
 memory_is (reply.Rows rows) e = cc
 memory_is (reply.Shared rows) e = cc
 memory_is (reply.Committed number) e = cc
+memory_is (reply.Stale what number) e = cc
 memory_is reply.Aborted e = cc
 memory_is (reply.Oldest stamp) e = cc
 memory_is (reply.Turned turned) e = cc
@@ -147,6 +148,7 @@ declared (table ∷ tables) P f all (suc t) less = declared tables P f (All-tail
 -- what a core may be made of is a shape
 pub shape_is : (sh : Shape) → MayOpen sh.tables sh.passes → IsShape sh
 shape_is sh may = record {
+  tables = may.few;
   blocks = λ t has. declared sh.tables (λ n. 1 ≤ n) (λ (table : TableDecl). table.blocks) may.blocks t has;
   slots = λ t has. (
     declared sh.tables (λ n. 1 ≤ n) (λ (table : TableDecl). table.slots) may.slots t has,

@@ -1,5 +1,5 @@
 -- The core as a hand that has every part.
-use Rattle.std.specs.Prelude.{◌≡◌, ◌≤◌, ℕ, Bool, true, false, List, [], ◌∷◌, None, Some, All}
+use Rattle.std.specs.Prelude.{◌≡◌, ◌≤◌, ℕ, Bool, true, false, List, [], ◌∷◌, None, Some, All, length}
 use Rattle.cell_model.specs.declared.table.TableDecl.{TableDecl}
 use Rattle.core_parts.specs.Numbers.{IsOfSize}
 use Rattle.event_spec.specs.declared.reply.Reply.TheVariants as reply
@@ -27,9 +27,10 @@ pub record IsWhole (shape : Shape) (hand : Held) : Type 0 where
   pub all : hand ≡ all_in (parts_in hand)
   pub holds : CoreHolds shape (parts_in hand)
 
--- What a core may be made of: each table has a block, and a slot in it.
+-- What a core may be made of: at most 16 tables, each of which has a block, and a slot in it.
 pub record MayOpen (tables : List TableDecl) (passes : ℕ) : Type 0 where
   pub size : IsOfSize tables passes
+  pub few : length tables ≤ 16
   pub blocks : All (λ (table : TableDecl). 1 ≤ table.blocks) tables
   pub slots : All (λ (table : TableDecl). 1 ≤ table.slots) tables
 
@@ -48,6 +49,7 @@ is_memory (reply.Refused fault) = false
 is_memory (reply.Rows rows) = false
 is_memory (reply.Shared rows) = false
 is_memory (reply.Committed number) = false
+is_memory (reply.Stale what number) = false
 is_memory reply.Aborted = false
 is_memory (reply.Oldest stamp) = false
 is_memory (reply.Turned turned) = false

@@ -16,7 +16,7 @@ cost_of shape (event.Update own table row) parts = 1
 cost_of shape (event.Delete own table key) parts = 0
 cost_of shape (event.Read own table block) parts =
     if is_imaged (body_at shape parts table block).phase then 0 else slots_of shape table
-cost_of shape (event.Commit own) parts = 0
+cost_of shape (event.Commit own reads) parts = 0
 cost_of shape (event.Abort own) parts = 0
 cost_of shape event.Oldest parts = 0
 cost_of shape (event.Observe table block) parts = 0

@@ -15,11 +15,12 @@ ghost use Rattle.hall_rule.specs.Hands.{Agrees};
 use block_layout::SlotId;
 use cell_model::Row;
 use core_events::{
-    CoreReply, begin, delete, get, image, insert, look, observe, oldest, read, seal, thaw, update,
+    CoreReply, begin, delete, get, image, insert, look, observe, oldest, read, seal, stale_read,
+    thaw, update,
 };
 use core_parts::{CorePart, Gathered, Shape};
 use core_sweeps::{abort, commit, move_rows, prune};
-use event_spec::{Moves, OwnKey, OwnTransaction, Reply, WriteFault};
+use event_spec::{Moves, OwnKey, OwnReads, OwnTransaction, Reply, WriteFault};
 use hall_rule::{Hand, Steps};
 use std::alloc::AllocError;
 use std::sync::ledger::Ledger;
@@ -102,13 +103,21 @@ pub(crate) fn deleted(
     told(delete(shape, held, own, table, key))
 }
 
-/// Ends a transaction whose writes stay.
+/// Ends a transaction whose writes stay, unless what it read is stale.
 #[inline(never)]
-pub(crate) fn committed(shape: &Shape, held: &mut Hand<CorePart>, own: &OwnTransaction) -> CoreReply
-    requires { MayRun shape.now (event.Commit own.now) held.old }
-    ensures { Runs shape.now (event.Commit own.now) held.old held.new result }
+pub(crate) fn committed(
+    shape: &Shape,
+    held: &mut Hand<CorePart>,
+    own: &OwnTransaction,
+    reads: &Option<OwnReads>,
+) -> CoreReply
+    requires { MayRun shape.now (event.Commit own.now reads.now) held.old }
+    ensures { Runs shape.now (event.Commit own.now reads.now) held.old held.new result }
 {
-    Reply::Committed(commit(shape, held, own))
+    match stale_read(shape, held, own, reads) {
+        Some((read, number)) => Reply::Stale { read, number },
+        None => Reply::Committed(commit(shape, held, own)),
+    }
 }
 
 /// Ends a transaction whose writes are laid back.

@@ -36,7 +36,7 @@ pub(crate) fn run<L: Ledger>(
         Event::Insert { own, table, row } => inserted(shape, held, &own, table, row),
         Event::Update { own, table, row } => updated(shape, held, &own, table, row, steps),
         Event::Delete { own, table, key } => deleted(shape, held, &own, table, key),
-        Event::Commit { own } => committed(shape, held, &own),
+        Event::Commit { own, reads } => committed(shape, held, &own, &reads),
         Event::Abort { own } => aborted(shape, held, &own),
         Event::Oldest => least_stamp(shape, held),
         Event::Observe { table, block } => observed(shape, held, table, block),

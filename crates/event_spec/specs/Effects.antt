@@ -2,7 +2,7 @@
 use Rattle.std.specs.Prelude.{ℕ, ◌+◌, ◌-◌, ℤ, Bool, true, false, not, ◌&&◌, ◌==◌, List, [], ◌∷◌}
 use Rattle.std.specs.Prelude.{◌++◌, Option, None, Some, is_some, is_none, unwrap_or, nat_lt, filter}
 use Rattle.std.specs.Prelude.{fold, slice_set, Result, Ok, Err, if◌then◌else◌}
-use Rattle.std.specs.List.{list_any}
+use Rattle.std.specs.List.{flat_map, list_any}
 use Rattle.std.specs.Ordering.{int_eq}
 use Rattle.std.specs.FinMap as finite
 use Rattle.block_layout.specs.Place.{block_of, slot_of}
@@ -20,12 +20,16 @@ use Rattle.event_spec.specs.declared.own.OwnTransaction.{OwnTransaction}
 use Rattle.event_spec.specs.declared.part.Head.{Head}
 use Rattle.event_spec.specs.declared.reply.WriteFault.{WriteFault}
 use Rattle.event_spec.specs.Parts.{Parts, Shape, Changes, nothing, names, each_changed, head_at}
-use Rattle.event_spec.specs.Parts.{body_at, desk_at, slot_at, places_at, is_head, shard_of, below}
+use Rattle.event_spec.specs.Parts.{body_at, desk_at, slot_at, places_at, part_at, shard_from}
+use Rattle.event_spec.specs.Parts.{ShardOf, is_head, shard_of, below}
 use Rattle.event_spec.specs.Parts.{blocks_of, slots_of}
 use Rattle.event_spec.specs.Judged.{found_by, judged_insert, judged_change, differences}
+use Rattle.event_spec.specs.Newest.{keys_within, stale_by}
 use Rattle.isolation_spec.specs.Contents.{PlaceMap, key_of}
+use Rattle.isolation_spec.specs.Reads.{ReadSet}
+use Rattle.isolation_spec.specs.declared.read.Read.{Read}
 use Rattle.key_index.specs.Candidates.{Places, candidates_of, with_candidates}
-use Rattle.txn_desk.specs.Desk.{DeskState}
+use Rattle.txn_desk.specs.Desk.{DeskState, marked, wrote_table}
 
 -- The core's events: an image goes by the rows whose buffers it has.
 abbrev pub CoreEvent : Type 0
@@ -93,9 +97,18 @@ abbrev pub closed : ℕ → DeskState → DeskState
 closed session desk = record desk
     { open_snapshots = slice_set desk.open_snapshots (session - 1) None }
 
--- A commit of some writes takes the next stamp and the next number, and a move the next stamp.
-abbrev pub numbered : DeskState → DeskState
-numbered desk = record desk { newest = desk.newest + 1; commits = desk.commits + 1 }
+-- the table is one of those written
+abbrev pub writes_table : PlaceMap ℕ → ℕ → Bool
+writes_table writes table = list_any (λ write. write.0.table == table) writes
+
+-- A commit of some writes takes the next stamp and the next number, and is the last that wrote
+-- their tables; a move takes the next stamp.
+abbrev pub numbered : PlaceMap ℕ → DeskState → DeskState
+numbered writes desk = record desk {
+  newest = desk.newest + 1;
+  commits = desk.commits + 1;
+  wrote = marked (desk.commits + 1) (writes_table writes) desk.wrote;
+}
 
 abbrev pub ticked : DeskState → DeskState
 ticked desk = record desk { newest = desk.newest + 1 }
@@ -128,6 +141,25 @@ module _ (shape : Shape) (parts : Parts) where
       (places_at shape parts table key)
       (λ block. (body_at shape parts table block).phase)
       own
+
+  -- ---- what a commit finds
+
+  -- the keys of a table between two, both counted, shard by shard
+  abbrev pub range_keys : ℕ → ℤ → ℤ → List ℤ
+  range_keys table low high = flat_map
+      (λ shard. keys_within low high (shard_from (part_at shape parts (ShardOf table shard))))
+      (below 8)
+
+  -- Why a commit is refused: of the transaction's reads the first that a later commit wrote into.
+  abbrev pub stale_in : OwnTransaction → Option ReadSet → Option (Read × ℕ)
+  stale_in own reads = stale_by
+      (slot_at shape parts)
+      (places_at shape parts)
+      range_keys
+      (wrote_table (desk_at shape parts))
+      own.snapshot
+      own.writes
+      reads
 
   -- ---- moves
 
@@ -207,8 +239,14 @@ module _ (shape : Shape) (parts : Parts) where
         then committed_in own.session ((desk_at shape parts).newest + 1)
         ((desk_at shape parts).commits + 1)
         else (λ body. body);
-    desk = λ desk. closed own.session (if is_some_write own.writes then numbered desk else desk);
+    desk = λ desk. closed own.session
+        (if is_some_write own.writes then numbered own.writes desk else desk);
   }
+
+  -- A commit that is refused changes nothing.
+  abbrev pub after_judged : OwnTransaction → Option (Read × ℕ) → Changes
+  after_judged own (Some stale) = nothing
+  after_judged own None = after_commit own
 
   -- A roll-back or a pruning: blocks that it leaves empty are the head's again, and slots that it
   -- leaves bare leave the index.
@@ -266,7 +304,7 @@ module _ (shape : Shape) (parts : Parts) where
   changes_of (event.Delete own table key) = after_change own table (λ old. change.Gone)
       (change_judged own table key)
   changes_of (event.Read own table block) = nothing
-  changes_of (event.Commit own) = after_commit own
+  changes_of (event.Commit own reads) = after_judged own (stale_in own reads)
   changes_of (event.Abort own) = after_abort own
   changes_of event.Oldest = nothing
   changes_of (event.Observe table block) =

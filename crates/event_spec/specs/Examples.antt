@@ -223,7 +223,7 @@ parts_of event = filter (touched shape (λ name. None) event) (names shape)
 -- transaction wrote.
 abbrev pub EventsTouchParts : Type 0
 EventsTouchParts =
-    (map parts_of (event.Begin 1 ∷ event.Oldest ∷ event.Commit (whole []) ∷ [])
+    (map parts_of (event.Begin 1 ∷ event.Oldest ∷ event.Commit (whole []) None ∷ [])
     ≡ (TheDesk ∷ []) ∷ (TheDesk ∷ []) ∷ (TheDesk ∷ []) ∷ [])
     × (map parts_of (event.Read wrote 0 1 ∷ event.Look 0 1 ∷ event.Image 0 1 None ∷ event.Thaw 0 1
     ∷ [])
@@ -231,7 +231,7 @@ EventsTouchParts =
     × (map parts_of (event.Observe 0 1 ∷ event.Seal 0 1 ∷ [])
     ≡ (HeadOf 0 ∷ BodyOf 0 1 ∷ []) ∷ (HeadOf 0 ∷ BodyOf 0 1 ∷ []) ∷ [])
     × (parts_of (event.Prune 0 1 0) ≡ HeadOf 0 ∷ map (ShardOf 0) (below 8) ++ BodyOf 0 1 ∷ [])
-    × (parts_of (event.Commit wrote) ≡ BodyOf 0 0 ∷ TheDesk ∷ [])
+    × (parts_of (event.Commit wrote None) ≡ BodyOf 0 0 ∷ TheDesk ∷ [])
     × (parts_of (event.Abort wrote) ≡ HeadOf 0 ∷ HeadOf 1 ∷ ShardOf 0 5 ∷ BodyOf 0 0 ∷ TheDesk ∷ [])
     × (parts_of (event.Move 0 (pair ∷ [])) ≡ HeadOf 0 ∷ ShardOf 0 2 ∷ BodyOf 0 1 ∷ TheDesk ∷ [])
 
@@ -273,15 +273,15 @@ TransactionsAreOpened =
 -- A commit with writes has the next stamp and number; one without takes neither.
 abbrev pub CommitsAreNumbered : Type 0
 CommitsAreNumbered =
-    let committed_parts = effect shape after_put (event.Commit wrote) in
-    (reply_to shape after_put (event.Commit wrote) ≡ reply.Committed (Some 1))
+    let committed_parts = effect shape after_put (event.Commit wrote None) in
+    (reply_to shape after_put (event.Commit wrote None) ≡ reply.Committed (Some 1))
     × (slot_at shape committed_parts 0 0 ≡ committed 1 1 1 own_put)
     × ((desk_at shape committed_parts).newest ≡ 1)
     × ((desk_at shape committed_parts).commits ≡ 1)
     × (reply_to shape committed_parts (event.Begin 2)
     ≡ reply.Begun (record { stamp = 1; number = 1 }))
-    × (reply_to shape after_put (event.Commit (whole [])) ≡ reply.Committed None)
-    × ((desk_at shape (effect shape after_put (event.Commit (whole [])))).newest ≡ 0)
+    × (reply_to shape after_put (event.Commit (whole []) None) ≡ reply.Committed None)
+    × ((desk_at shape (effect shape after_put (event.Commit (whole []) None))).newest ≡ 0)
 
 -- An abort leaves the slot bare, and the empty head begins anew.
 abbrev pub AbortsLeaveNothing : Type 0
@@ -341,7 +341,7 @@ made event = record { event = event; refused = false }
 abbrev pub LogsAreReplayed : Type 0
 LogsAreReplayed =
     let log = made (event.Begin 1) ∷ record { event = event.Look 0 0; refused = true } ∷ made (event.Seal 0 1)
-    ∷ made (event.Observe 0 0) ∷ made (event.Commit (whole [])) ∷ made event.Oldest ∷ [] in
+    ∷ made (event.Observe 0 0) ∷ made (event.Commit (whole []) None) ∷ made event.Oldest ∷ [] in
     (replies_from shape (opening shape) log
     ≡ reply.Begun (record { stamp = 0; number = 0 }) ∷ reply.Memory ∷ reply.NotSealed
     seal_fault.Empty ∷ reply.Turned false

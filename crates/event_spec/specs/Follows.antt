@@ -1,19 +1,20 @@
 -- What holds between the slots, the index and the desk on one side, and the snapshot-isolation
 -- machine on the other.
-use Rattle.std.specs.Prelude.{◌≡◌, ◌⊎◌, ℕ, ◌≤◌, ℤ, Bool, true, false, ◌||◌, List, [], ◌∷◌, Option}
-use Rattle.std.specs.Prelude.{None, Some, is_some, length, All, find, ◌==◌, IfSome}
+use Rattle.std.specs.Prelude.{◌≡◌, ◌⊎◌, ℕ, ◌<◌, ◌≤◌, ℤ, Bool, true, false, ◌||◌, List, [], ◌∷◌, Option}
+use Rattle.std.specs.Prelude.{None, Some, is_some, unwrap_or, length, All, find, ◌==◌, IfSome}
 use Rattle.std.specs.List.{last_or}
-use Rattle.std.specs.Map.{keys_of}
-use Rattle.std.specs.declared.cmp.Ordering.TheVariants.{Less}
 use Rattle.block_spec.specs.Slots.{Slot, Row, seen, is_bare, writer_of}
 use Rattle.event_spec.specs.Lawful.{Among}
 use Rattle.event_spec.specs.SlotSound.{Keyed, IsSoundSlot}
-use Rattle.isolation_spec.specs.Contents.{place_cmp, at_place, PlaceMap, State, History, state_at}
+use Rattle.isolation_spec.specs.Contents.{at_place, State, History, state_at}
 use Rattle.isolation_spec.specs.Contents.{place_at, place_of}
 use Rattle.isolation_spec.specs.Machine.{IsolationMachine, Transaction, transaction_of}
 use Rattle.isolation_spec.specs.Machine.{later_writers}
+use Rattle.isolation_spec.specs.Order.{InOrder}
+use Rattle.isolation_spec.specs.Reads.{last_meeting}
+use Rattle.isolation_spec.specs.declared.read.Read.TheVariants as read
 use Rattle.txn_desk.specs.declared.Snapshot.{Snapshot}
-use Rattle.txn_desk.specs.Desk.{DeskState}
+use Rattle.txn_desk.specs.Desk.{DeskState, wrote_table}
 use Rattle.txn_desk.specs.Oldest.{snapshot_of}
 use Rattle.undo_chain.specs.Lawful.{NoneStampedAbove}
 use Rattle.undo_chain.specs.Conflict.{numbers_above}
@@ -40,12 +41,6 @@ abbrev pub StandsBefore : ℕ → ℕ → List ℕ → Type 0
 StandsBefore one other [] = ⊥
 StandsBefore one other (place ∷ places) = ((one ≡ place) × Among other places)
     ⊎ StandsBefore one other places
-
--- the entries of a map stand in the order of their places
-abbrev pub InOrder : {X : Type 0} → PlaceMap X → Type 0
-InOrder [] = Unit {0}
-InOrder (entry ∷ entries) = All (λ place. place_cmp entry.0 place ≡ Less) (keys_of entries)
-    × InOrder entries
 
 -- each session has one open transaction at most
 abbrev pub OneEach : List Transaction → Type 0
@@ -103,7 +98,8 @@ module _ (slot : ℕ → ℕ → Slot) (places : ℕ → ℤ → List ℕ) where
         → (place : ℕ) × Among place (places table key)
         × (writer_of (slot table place).entries ≡ Some session)
 
--- The desk has the machine's transactions, with its snapshots, and its count of commits.
+-- The desk has the machine's transactions, with its snapshots, its count of commits, and of each
+-- table the last commit that wrote it, 0 where none did.
 pub record Desked (desk : DeskState) (machine : IsolationMachine) : Type 0 where
   pub counted : length machine.history ≡ desk.commits
   pub begun : (session : ℕ) (snapshot : Snapshot) → 1 ≤ session → snapshot_of desk session
@@ -119,6 +115,8 @@ pub record Desked (desk : DeskState) (machine : IsolationMachine) : Type 0 where
   pub own_order : (session : ℕ) (open' : Transaction) → transaction_of session machine ≡ Some open'
       → InOrder open'.own
   pub history_order : All InOrder machine.history
+  pub wrote : (table : ℕ) → table < 16
+      → wrote_table desk table ≡ unwrap_or (last_meeting machine.history 0 (read.Table table)) 0
 
 -- The slots, the index and the desk follow the machine.
 pub record Follows (slot : ℕ → ℕ → Slot) (places : ℕ → ℤ → List ℕ) (desk : DeskState) (machine : IsolationMachine) : Type 0 where

@@ -22,6 +22,8 @@ use Rattle.event_spec.specs.Judged.{current_place}
 use Rattle.event_spec.specs.Effects.{CoreEvent}
 use Rattle.event_spec.specs.Replies.{CoreReply}
 use Rattle.isolation_spec.specs.Contents.{at_place, place_at, key_of}
+use Rattle.isolation_spec.specs.Reads.{ReadSet}
+use Rattle.isolation_spec.specs.declared.place.Place.{Place}
 use Rattle.txn_desk.specs.declared.Snapshot.{Snapshot}
 use Rattle.txn_desk.specs.Oldest.{snapshot_of, oldest_of}
 use Rattle.undo_chain.specs.declared.undo.Undo.{Undo}
@@ -141,7 +143,7 @@ Stands shape (event.Insert own table row) parts = OwnsKey shape own table (key_o
 Stands shape (event.Update own table row) parts = OwnsKey shape own table (key_of row) parts
 Stands shape (event.Delete own table key) parts = OwnsKey shape own table key parts
 Stands shape (event.Read own table block) parts = OwnsAll shape own parts
-Stands shape (event.Commit own) parts = OwnsAll shape own parts
+Stands shape (event.Commit own reads) parts = OwnsAll shape own parts
 Stands shape (event.Abort own) parts = OwnsAll shape own parts
 Stands shape event.Oldest parts = ⊤
 Stands shape (event.Observe table block) parts = ⊤
@@ -176,6 +178,12 @@ IsThawed shape table key parts = IfSome
     (current_place (slot_at shape parts table) (places_at shape parts table key))
     (λ place. is_imaged (body_at shape parts table (block_of place)).phase ≡ false)
 
+-- Each read names a table that is there, and none is a range.
+pub record HasReads (shape : Shape) (reads : ReadSet) : Type 0 where
+  pub places : All (λ (place : Place). HasTable shape place.table) reads.places
+  pub tables : All (HasTable shape) reads.tables
+  pub ranges : reads.ranges ≡ []
+
 -- What an event asks of the parts that it touches.
 abbrev pub FitsIn : Shape → CoreEvent → Parts → Type 0
 FitsIn shape (event.Begin session) parts = ⊤
@@ -186,7 +194,7 @@ FitsIn shape (event.Update own table row) parts =
 FitsIn shape (event.Delete own table key) parts = HasTable shape table
     × IsThawed shape table key parts
 FitsIn shape (event.Read own table block) parts = HasBlock shape table block
-FitsIn shape (event.Commit own) parts = HasStamp shape parts
+FitsIn shape (event.Commit own reads) parts = HasStamp shape parts × IfSome reads (HasReads shape)
 FitsIn shape (event.Abort own) parts = ⊤
 FitsIn shape event.Oldest parts = ⊤
 FitsIn shape (event.Observe table block) parts = HasBlock shape table block
@@ -217,7 +225,7 @@ session_of (event.Insert own table row) = Some own.session
 session_of (event.Update own table row) = Some own.session
 session_of (event.Delete own table key) = Some own.session
 session_of (event.Read own table block) = Some own.session
-session_of (event.Commit own) = Some own.session
+session_of (event.Commit own reads) = Some own.session
 session_of (event.Abort own) = Some own.session
 session_of event.Oldest = None
 session_of (event.Observe table block) = None
@@ -228,6 +236,25 @@ session_of (event.Seal table block) = None
 session_of (event.Image table block image) = None
 session_of (event.Thaw table block) = None
 
+-- What an event hands in of its transaction's reads: a commit does where that is checked.
+abbrev pub reads_handed : CoreEvent → Option ReadSet
+reads_handed (event.Begin session) = None
+reads_handed (event.Get own table key) = None
+reads_handed (event.Insert own table row) = None
+reads_handed (event.Update own table row) = None
+reads_handed (event.Delete own table key) = None
+reads_handed (event.Read own table block) = None
+reads_handed (event.Commit own reads) = reads
+reads_handed (event.Abort own) = None
+reads_handed event.Oldest = None
+reads_handed (event.Observe table block) = None
+reads_handed (event.Prune table block oldest) = None
+reads_handed (event.Look table block) = None
+reads_handed (event.Move table moves) = None
+reads_handed (event.Seal table block) = None
+reads_handed (event.Image table block image) = None
+reads_handed (event.Thaw table block) = None
+
 -- Whether an event takes memory, for want of which alone it may be refused.
 abbrev pub takes_memory : CoreEvent → Bool
 takes_memory (event.Begin session) = false
@@ -236,7 +263,7 @@ takes_memory (event.Insert own table row) = true
 takes_memory (event.Update own table row) = true
 takes_memory (event.Delete own table key) = true
 takes_memory (event.Read own table block) = true
-takes_memory (event.Commit own) = false
+takes_memory (event.Commit own reads) = false
 takes_memory (event.Abort own) = false
 takes_memory event.Oldest = false
 takes_memory (event.Observe table block) = false

@@ -1,5 +1,6 @@
 pub mod Parts
 pub mod Judged
+pub mod Newest
 pub mod Effects
 pub mod Replies
 pub mod Plans
@@ -10,3 +11,4 @@ pub mod SlotSound
 pub mod Follows
 pub mod Sound
 pub mod Examples
+pub mod StaleExamples

@@ -103,7 +103,7 @@ body_from _ = untouched [] 0
 
 abbrev pub desk_from : Option CorePart → DeskState
 desk_from (Some (part.Desk desk)) = desk
-desk_from _ = record { newest = 0; commits = 0; open_snapshots = [] }
+desk_from _ = record { newest = 0; commits = 0; open_snapshots = []; wrote = [] }
 
 module _ (shape : Shape) (parts : Parts) where
   abbrev pub part_at : Name → Option CorePart

@@ -36,7 +36,12 @@ opening_part shape (ShardOf table shard) = part.Shard finite.empty
 opening_part shape (BodyOf table block) = part.Body
     (untouched (columns_in shape table) (slots_of shape table))
 opening_part shape TheDesk = part.Desk
-    (record { newest = 0; commits = 0; open_snapshots = replicate shape.passes None })
+    (record {
+      newest = 0;
+      commits = 0;
+      open_snapshots = replicate shape.passes None;
+      wrote = replicate 16 0;
+    })
 
 -- The core before the first event: all slots are bare, and nothing is open.
 abbrev pub opening : Shape → Parts

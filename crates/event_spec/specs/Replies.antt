@@ -16,8 +16,9 @@ use Rattle.event_spec.specs.declared.reply.Reply.TheVariants as reply
 use Rattle.event_spec.specs.declared.reply.WriteFault.{WriteFault}
 use Rattle.event_spec.specs.Parts.{Parts, Shape, body_at, desk_at, slot_at, is_head, below}
 use Rattle.event_spec.specs.Effects.{CoreEvent, is_some_write, found, insert_judged, change_judged}
-use Rattle.event_spec.specs.Effects.{held_pairs}
+use Rattle.event_spec.specs.Effects.{stale_in, held_pairs}
 use Rattle.isolation_spec.specs.Contents.{at_place, place_at, key_of}
+use Rattle.isolation_spec.specs.declared.read.Read.{Read}
 use Rattle.txn_desk.specs.Oldest.{oldest_of}
 
 -- The core's replies: a shared image goes by its rows.
@@ -63,6 +64,13 @@ module _ (shape : Shape) (parts : Parts) where
       then reply.Shared (rows_of (body_at shape parts table block))
       else reply.Rows (rows_read own table block)
 
+  -- A commit replies its number where it has writes, and where it is refused the stale read.
+  abbrev pub reply_to_commit : OwnTransaction → Option (Read × ℕ) → CoreReply
+  reply_to_commit own (Some stale) = reply.Stale stale.0 stale.1
+  reply_to_commit own None =
+      reply.Committed (if is_some_write own.writes then Some ((desk_at shape parts).commits + 1)
+      else None)
+
   -- The reply to an event.
   abbrev pub reply_to : CoreEvent → CoreReply
   reply_to (event.Begin session) =
@@ -77,9 +85,7 @@ module _ (shape : Shape) (parts : Parts) where
       (change_judged shape parts own table (key_of row))
   reply_to (event.Delete own table key) = reply_to_write (change_judged shape parts own table key)
   reply_to (event.Read own table block) = reply_to_read own table block
-  reply_to (event.Commit own) =
-      reply.Committed (if is_some_write own.writes then Some ((desk_at shape parts).commits + 1)
-      else None)
+  reply_to (event.Commit own reads) = reply_to_commit own (stale_in shape parts own reads)
   reply_to (event.Abort own) = reply.Aborted
   reply_to event.Oldest = reply.Oldest (oldest_of (desk_at shape parts))
   reply_to (event.Observe table block) =

@@ -76,8 +76,9 @@ pub record Sound (shape : Shape) (parts : Parts) : Type 0 where
   pub no_head : (table block : ℕ) → HasBlock shape table block → IsNoHead shape parts table block
   pub sessions : length (desk_at shape parts).open_snapshots ≡ shape.passes
 
--- Each table has a block, and between 1 and 2 ^ 15 slots in it.
+-- There are at most 16 tables, and each has a block, and between 1 and 2 ^ 15 slots in it.
 pub record IsShape (shape : Shape) : Type 0 where
+  pub tables : length shape.tables ≤ 16
   pub blocks : (table : ℕ) → HasTable shape table → 1 ≤ blocks_of shape table
   pub slots : (table : ℕ) → HasTable shape table → (1 ≤ slots_of shape table)
       × (slots_of shape table ≤ 2 ^ 15)

@@ -1,17 +1,21 @@
 -- Which parts an event touches, as the parts held before tell.
 use Rattle.std.specs.Prelude.{ℕ, ℤ, Bool, true, false, ◌&&◌, ◌||◌, ◌==◌, List, [], ◌∷◌, ◌++◌}
 use Rattle.std.specs.Prelude.{Option, None, Some, option_to_list, slice_get}
-use Rattle.std.specs.List.{list_any}
+use Rattle.std.specs.List.{flat_map, list_any}
 use Rattle.std.specs.Option.{option_or}
 use Rattle.block_layout.specs.Place.{block_of}
 use Rattle.event_spec.specs.declared.event.Event.TheVariants as event
 use Rattle.event_spec.specs.declared.event.MovePair.{MovePair}
 use Rattle.event_spec.specs.Parts.{CorePart, Shape, Name, HeadOf, ShardOf, BodyOf, TheDesk}
 use Rattle.event_spec.specs.Parts.{same_name, names, held_named, head_from, shard_from, slots_of}
-use Rattle.event_spec.specs.Parts.{shard_of}
+use Rattle.event_spec.specs.Parts.{shard_of, below}
 use Rattle.event_spec.specs.Judged.{next_place}
+use Rattle.event_spec.specs.Newest.{keys_within, judged_reads}
 use Rattle.event_spec.specs.Effects.{CoreEvent}
 use Rattle.isolation_spec.specs.Contents.{PlaceMap, key_of}
+use Rattle.isolation_spec.specs.Reads.{ReadSet}
+use Rattle.isolation_spec.specs.declared.place.Place.{Place}
+use Rattle.isolation_spec.specs.declared.read.KeyRange.{KeyRange}
 use Rattle.key_index.specs.Candidates.{candidates_of}
 
 -- the body of one of these places of a table
@@ -78,6 +82,30 @@ module _ (shape : Shape) (held : Name → Option CorePart) where
   abbrev pub held_next : ℕ → Option ℕ
   held_next table = next_place (head_from (held (HeadOf table))) (slots_of shape table)
 
+  abbrev pub held_keys : ℕ → ℤ → ℤ → List ℤ
+  held_keys table low high = flat_map
+      (λ shard. keys_within low high (shard_from (held (ShardOf table shard))))
+      (below 8)
+
+  -- a key that was got: its shard and the bodies of its candidates
+  abbrev pub touched_by_got : Place → Name → Bool
+  touched_by_got place name =
+      touched_by_key place.table place.key (held_places place.table place.key) name
+
+  -- a range: all shards of its table and the bodies of its keys' candidates
+  abbrev pub touched_by_range : KeyRange → Name → Bool
+  touched_by_range range name =
+      is_shard_in range.table name
+      || list_any (λ key. is_body_of range.table (held_places range.table key) name)
+      (held_keys range.table range.low range.high)
+
+  -- What a commit reads. The desk tells of the tables that were read as a whole.
+  abbrev pub touched_by_reads : Option ReadSet → Name → Bool
+  touched_by_reads None name = false
+  touched_by_reads (Some reads) name =
+      list_any (λ place. touched_by_got place name) reads.places
+      || list_any (λ range. touched_by_range range name) reads.ranges
+
   abbrev pub touched : CoreEvent → Name → Bool
   touched (event.Begin session) name = same_name TheDesk name
   touched (event.Get own table key) name =
@@ -94,7 +122,9 @@ module _ (shape : Shape) (held : Name → Option CorePart) where
   touched (event.Delete own table key) name =
       touched_by_key table key (option_to_list own.written ++ held_places table key) name
   touched (event.Read own table block) name = touched_by_block table block name
-  touched (event.Commit own) name = is_body_written own.writes name || same_name TheDesk name
+  touched (event.Commit own reads) name =
+      is_body_written own.writes name || touched_by_reads (judged_reads own.writes reads) name
+      || same_name TheDesk name
   touched (event.Abort own) name =
       is_any_head name || is_shard_written own.writes name || is_body_written own.writes name
       || same_name TheDesk name

@@ -1,7 +1,7 @@
 //! The events of the core. Everything that happens in a store is one of them.
 
 use crate::lists::Moves;
-use crate::own::{OwnKey, OwnTransaction};
+use crate::own::{OwnKey, OwnReads, OwnTransaction};
 use block_layout::SlotId;
 use cell_model::Row;
 
@@ -53,9 +53,11 @@ pub enum Event<I> {
         table: u32,
         block: u32,
     },
-    /// Ends a transaction, whose writes become visible to later ones.
+    /// Ends a transaction, whose writes become visible to later ones. A checked one hands in what
+    /// it read, and is refused where it wrote and a later commit wrote into that.
     Commit {
         own: OwnTransaction,
+        reads: Option<OwnReads>,
     },
     /// Ends a transaction and lays back what it wrote.
     Abort {

@@ -7,6 +7,9 @@ ghost use Rattle.event_spec.specs.Examples.{EventsTouchParts, KeysTouchParts};
 ghost use Rattle.event_spec.specs.Examples.{TransactionsAreOpened, CommitsAreNumbered};
 ghost use Rattle.event_spec.specs.Examples.{AbortsLeaveNothing, ReadsSeeOwnWrites};
 ghost use Rattle.event_spec.specs.Examples.{MovesTakeOneStamp, FreezesGoInTurn, LogsAreReplayed};
+ghost use Rattle.event_spec.specs.StaleExamples.{KeysAreStale, TablesAreStale, ReadsTouchParts};
+ghost use Rattle.event_spec.specs.StaleExamples.{StaleCommitsAreRefused, RefusalsChangeNothing};
+ghost use Rattle.event_spec.specs.StaleExamples.{TablesHaveLastWriters};
 
 /// Inserts take the head's slots in order, then the least empty block becomes the head.
 pub fn heads_take_slots_in_order()
@@ -71,6 +74,28 @@ pub fn transactions_are_opened()
 /// A commit with writes takes the next stamp and number, one without takes neither.
 pub fn commits_are_numbered()
     ensures { CommitsAreNumbered }
+{}
+
+/// The first key that a later commit wrote is stale, then the first table, and then a range.
+pub fn reads_are_stale()
+    ensures keys { KeysAreStale }
+    ensures tables { TablesAreStale }
+{}
+
+/// A commit is refused where a read is stale, and leaves all as it was.
+pub fn stale_commits_are_refused()
+    ensures reply { StaleCommitsAreRefused }
+    ensures effect { RefusalsChangeNothing }
+{}
+
+/// A commit is the last that wrote its tables.
+pub fn tables_have_last_writers()
+    ensures { TablesHaveLastWriters }
+{}
+
+/// Which parts the commit of a checked transaction touches.
+pub fn reads_touch_parts()
+    ensures { ReadsTouchParts }
 {}
 
 /// An abort leaves nothing of what its session put.

@@ -13,6 +13,6 @@ pub mod reply;
 
 pub use event::{Event, MovePair};
 pub use lists::{Blocks, Moves};
-pub use own::{OwnKey, OwnTransaction, OwnWrites};
+pub use own::{OwnKey, OwnReads, OwnTransaction, OwnWrites, ReadRows};
 pub use part::{Head, Part};
 pub use reply::{Reply, VersionCount, WriteFault};

@@ -1,12 +1,14 @@
 //! What an event is handed of its session's open transaction.
 ghost use Rattle.std.specs.Prelude.{◌≡◌};
+ghost use Rattle.std.specs.Arc.{arc_value};
+ghost use Rattle.txn_desk.specs.Marks.{marked_tables};
 
 use block_layout::SlotId;
-use isolation_spec::Place;
-use std::collections::BTreeMap;
+use isolation_spec::{KeyRange, Place};
+use std::collections::{BTreeMap, BTreeSet};
 use std::marker::Model;
 use std::sync::Arc;
-use txn_desk::Snapshot;
+use txn_desk::{Snapshot, TableMarks};
 
 /// The rows that a transaction wrote, each with the place of the slot on which its entries stand.
 /// It is shared, so that to hand it in costs nothing.
@@ -47,6 +49,63 @@ impl OwnWrites {
         ensures { result.now.entries ≡ self.now }
     {
         &self.by_row
+    }
+}
+
+/// The rows that a checked transaction got, or did not find, and the ranges that it read, in the
+/// order of its calls.
+#[derive(Drop)]
+pub struct ReadRows {
+    pub places: BTreeSet<Place>,
+    pub ranges: Vec<KeyRange>,
+}
+
+/// What a checked transaction read: rows and ranges, which are shared, so that to hand them in costs
+/// nothing, and the tables that it read as a whole.
+#[derive(Drop)]
+pub struct OwnReads {
+    rows: Arc<ReadRows>,
+    tables: TableMarks,
+}
+
+impl Model for OwnReads {
+    ghost use Rattle.std.specs.Arc.{arc_value};
+    ghost use Rattle.isolation_spec.specs.Reads.{ReadSet};
+    ghost use Rattle.txn_desk.specs.Marks.{marked_tables};
+
+    ghost Value = { ReadSet };
+
+    ghost view = { λ own. record {
+      places = (arc_value own.rows).places.keys;
+      tables = marked_tables own.tables;
+      ranges = (arc_value own.rows).ranges.items;
+    } };
+}
+
+impl OwnReads {
+    /// The rows and ranges as they are, shared with whoever holds them too, and these tables.
+    pub fn new(rows: Arc<ReadRows>, tables: TableMarks) -> OwnReads
+        ensures { result ≡ record {
+          places = (arc_value rows).places.keys;
+          tables = marked_tables tables;
+          ranges = (arc_value rows).ranges.items;
+        } }
+    {
+        OwnReads { rows, tables }
+    }
+
+    /// The rows, lent.
+    pub fn places(&self) -> &BTreeSet<Place>
+        ensures { result.now.keys ≡ self.now.places }
+    {
+        &self.rows.places
+    }
+
+    /// The tables that were read as a whole.
+    pub fn tables(&self) -> &TableMarks
+        ensures { marked_tables result.now ≡ self.now.tables }
+    {
+        &self.tables
     }
 }
 

@@ -4,6 +4,7 @@ ghost use Rattle.std.specs.Prelude.{◌≡◌, ◌≤◌, ◌^◌};
 use block_layout::SlotId;
 use block_spec::SealFault;
 use cell_model::Row;
+use isolation_spec::Read;
 use std::marker::Model;
 use thiserror::Error;
 use txn_desk::Snapshot;
@@ -87,6 +88,9 @@ pub enum Reply<R, I, L> {
     Shared(I),
     /// The transaction committed, with this number where it wrote something.
     Committed(Option<u64>),
+    /// The commit was refused, and nothing changed: a read of the transaction was written since,
+    /// last by the commit with this number.
+    Stale { read: Read, number: u64 },
     /// The transaction's writes were laid back.
     Aborted,
     /// The least start of an open transaction, or the newest stamp where none is open.

@@ -1,6 +1,10 @@
+pub mod Checked
 pub mod Entries
 pub mod Keys
 pub mod Later
 pub mod Least
+pub mod Maps
+pub mod Overlays
 pub mod Rows
+pub mod States
 pub mod Writes

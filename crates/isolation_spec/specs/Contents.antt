@@ -1,5 +1,6 @@
 -- State of several tables as finite maps, and what write sets make of them.
-use Rattle.std.specs.Prelude.{ℕ, Bool, ◌==◌, List, [], ◌∷◌, ℤ, pos, take, fold, filter_map, find, option_map}
+use Rattle.std.specs.Prelude.{ℕ, Bool, ◌&&◌, ◌==◌, List, [], ◌∷◌, ℤ, pos, ◌+ℤ◌, take, fold}
+use Rattle.std.specs.Prelude.{filter_map, find, option_map, option_and_then, slice_get}
 use Rattle.std.specs.Prelude.{if◌then◌else◌, Option, None, Some}
 use Rattle.std.specs.Ordering.{nat_cmp, int_cmp, ordering_then, is_eq}
 use Rattle.std.specs.declared.cmp.Ordering.{Ordering}
@@ -7,6 +8,7 @@ use Rattle.std.specs.BTreeMap.{insert_entry}
 use Rattle.std.specs.Map.{lookup, remove_entry}
 use Rattle.cell_model.specs.declared.cell.Cell.{Cell}
 use Rattle.cell_model.specs.declared.cell.Cell.TheVariants.{Null, Num, Truth, Text, Blob}
+use Rattle.cell_model.specs.Values.{is_between}
 use Rattle.isolation_spec.specs.declared.place.Place.{Place}
 
 -- places go by table and then by key
@@ -60,6 +62,34 @@ state_at history n = fold laid_over [] (take n history)
 abbrev pub contents_of : ℕ → State → List (List Cell)
 contents_of table rows = filter_map (λ entry. if entry.0.table == table then Some entry.1 else None)
     rows
+
+-- the place is one of this table with a key between two, both counted
+abbrev pub is_in_range : ℕ → ℤ → ℤ → Place → Bool
+is_in_range table low high place = place.table == table && is_between low high place.key
+
+-- The rows of a table whose keys lie between two, both counted, in the order of their keys.
+abbrev pub contents_between : ℕ → ℤ → ℤ → State → List (List Cell)
+contents_between table low high rows = filter_map
+    (λ entry. if is_in_range table low high entry.0 then Some entry.1 else None)
+    rows
+
+-- the number in a cell, where it lies between two, both counted; a null is no number
+abbrev pub number_between : ℤ → ℤ → Cell → Option ℤ
+number_between low high (Num number) = if is_between low high number then Some number else None
+number_between low high Null = None
+number_between low high (Truth truth) = None
+number_between low high (Text text) = None
+number_between low high (Blob bytes) = None
+
+-- The numbers in a column of these rows, counted from 0, that lie between two, both counted.
+abbrev pub numbers_between : ℕ → ℤ → ℤ → List (List Cell) → List ℤ
+numbers_between column low high rows = filter_map
+    (λ row. option_and_then (number_between low high) (slice_get row column))
+    rows
+
+-- the sum of numbers
+abbrev pub sum_of : List ℤ → ℤ
+sum_of numbers = fold ◌+ℤ◌ (pos 0) numbers
 
 -- the key of a row, the number in its first cell
 abbrev pub key_of : List Cell → ℤ

@@ -1,5 +1,5 @@
 -- Worked examples of the machine, as facts.
-use Rattle.std.specs.Prelude.{◌≡◌, ℕ, List, [], ◌∷◌, pos, None, Some, codes}
+use Rattle.std.specs.Prelude.{◌≡◌, ℕ, List, [], ◌∷◌, pos, None, Some, codes, false}
 use Rattle.cell_model.specs.declared.cell.Cell.{Cell}
 use Rattle.cell_model.specs.declared.cell.Cell.TheVariants.{Num, Text}
 use Rattle.isolation_spec.specs.Machine.{IsolationMachine, opening, step, answers_from}
@@ -34,7 +34,7 @@ abbrev pub get : ℕ → ℕ → Command
 get session key = asks session (act.Get 0 (pos key))
 
 abbrev pub begin : ℕ → Command
-begin session = asks session act.Begin
+begin session = asks session (act.Begin false)
 
 abbrev pub commit : ℕ → Command
 commit session = asks session act.Commit
@@ -145,11 +145,11 @@ after command machine = (step machine command).1
 
 -- a store that has answered `begin` may be full, or refuse memory to an insert, and nothing changes
 abbrev pub FullIsAllowed : Type 0
-FullIsAllowed = Allows (after (begin 1) opening) (insert 1 5 (codes "x")) Full
+FullIsAllowed = Allows (after (begin 1) opening) None (insert 1 5 (codes "x")) Full
     (after (begin 1) opening)
 
 abbrev pub MemoryIsAllowed : Type 0
-MemoryIsAllowed = Allows (after (begin 1) opening) (get 1 5) Memory (after (begin 1) opening)
+MemoryIsAllowed = Allows (after (begin 1) opening) None (get 1 5) Memory (after (begin 1) opening)
 
 -- the machine where session 1 has inserted the key 5
 abbrev pub holding : IsolationMachine
@@ -157,19 +157,21 @@ holding = after (insert 1 5 (codes "x")) (after (begin 1) opening)
 
 -- a row that stands may be freezing
 abbrev pub FreezingIsAllowed : Type 0
-FreezingIsAllowed = Allows holding (update 1 5 (codes "y")) Freezing holding
+FreezingIsAllowed = Allows holding None (update 1 5 (codes "y")) Freezing holding
 
 -- without a transaction there is no want of memory, and none at a commit; an insert is not refused
 -- as freezing, and what is missing not; only an insert that would be accepted is refused as full;
 -- and nothing changes
 abbrev pub OthersAreNot : Type 0
 OthersAreNot =
-    ¬ Allows opening (get 1 5) Memory opening
-    × ¬ Allows holding (commit 1) Memory holding
-    × ¬ Allows holding (get 1 5) Memory opening
-    × ¬ Allows (after (begin 1) opening) (insert 1 5 (codes "x")) Freezing (after (begin 1) opening)
-    × ¬ Allows (after (begin 1) opening) (update 1 5 (codes "x")) Freezing (after (begin 1) opening)
-    × ¬ Allows holding (update 1 5 (codes "y")) Freezing opening
-    × ¬ Allows holding (update 1 5 (codes "y")) Full holding
-    × ¬ Allows holding (insert 1 5 (codes "y")) Full holding
-    × ¬ Allows holding (insert 1 6 (codes "y")) Full opening
+    ¬ Allows opening None (get 1 5) Memory opening
+    × ¬ Allows holding None (commit 1) Memory holding
+    × ¬ Allows holding None (get 1 5) Memory opening
+    × ¬ Allows (after (begin 1) opening) None (insert 1 5 (codes "x")) Freezing
+    (after (begin 1) opening)
+    × ¬ Allows (after (begin 1) opening) None (update 1 5 (codes "x")) Freezing
+    (after (begin 1) opening)
+    × ¬ Allows holding None (update 1 5 (codes "y")) Freezing opening
+    × ¬ Allows holding None (update 1 5 (codes "y")) Full holding
+    × ¬ Allows holding None (insert 1 5 (codes "y")) Full holding
+    × ¬ Allows holding None (insert 1 6 (codes "y")) Full opening

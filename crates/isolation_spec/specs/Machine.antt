@@ -2,13 +2,14 @@
 -- writes, where the first to write a key wins.
 use Rattle.std.specs.Prelude.{ℕ, ◌+◌, ◌-◌, Bool, ◌&&◌, not, ◌==◌, nat_lt, List, [], ◌∷◌, ◌++◌, map}
 use Rattle.std.specs.Prelude.{length, filter, find, slice_index_or, if◌then◌else◌, Option, None}
-use Rattle.std.specs.Prelude.{Some, is_some, is_none, unwrap_or, option_map}
+use Rattle.std.specs.Prelude.{Some, is_some, is_none, unwrap_or, option_map, ℤ}
 use Rattle.std.specs.List.{last_or, range_with_len}
 use Rattle.std.specs.Option.{option_or}
 use Rattle.std.specs.BTreeMap.{insert_entry}
 use Rattle.cell_model.specs.declared.cell.Cell.{Cell}
 use Rattle.isolation_spec.specs.Contents.{place_cmp, at_place, State, WriteSet, History, laid_over}
-use Rattle.isolation_spec.specs.Contents.{state_at, contents_of, place_at, place_of}
+use Rattle.isolation_spec.specs.Contents.{state_at, contents_of, contents_between, numbers_between}
+use Rattle.isolation_spec.specs.Contents.{sum_of, place_at, place_of}
 use Rattle.isolation_spec.specs.declared.place.Place.{Place}
 use Rattle.isolation_spec.specs.declared.command.Command.{Command}
 use Rattle.isolation_spec.specs.declared.command.Act.{Act}
@@ -52,11 +53,15 @@ rival_of machine session place = find (λ t. not (t.session == session) && write
 abbrev pub write_set_at : History → ℕ → WriteSet
 write_set_at history number = slice_index_or history (number - 1) []
 
--- The numbers of the commits after a snapshot whose write sets have the place, in order.
-abbrev pub later_writers : History → ℕ → Place → List ℕ
-later_writers history snapshot place =
-    filter (λ number. nat_lt snapshot number && writes_place place (write_set_at history number))
+-- The numbers of the commits after a snapshot whose write sets pass a test, in order.
+abbrev pub later_commits : History → ℕ → (WriteSet → Bool) → List ℕ
+later_commits history snapshot test =
+    filter (λ number. nat_lt snapshot number && test (write_set_at history number))
     (range_with_len 1 (length history))
+
+-- Those whose write sets have the place.
+abbrev pub later_writers : History → ℕ → Place → List ℕ
+later_writers history snapshot place = later_commits history snapshot (writes_place place)
 
 -- A write conflict: another open transaction wrote the place, else a commit after the snapshot did,
 -- the last of which is named.
@@ -113,13 +118,23 @@ commit machine t (first ∷ rest) = (
       { history = machine.history ++ t.own ∷ [] },
 )
 
+-- the answer to a total: how many numbers there are, and their sum
+abbrev pub told_total : List ℤ → Answer
+told_total numbers = answer.Totalled (length numbers) (sum_of numbers)
+
 -- what a session with an open transaction is answered, and the machine after it
 abbrev pub step_within : IsolationMachine → Transaction → Act → Answer × IsolationMachine
-step_within machine t act.Begin = (answer.InTransaction, machine)
+step_within machine t (act.Begin checked) = (answer.InTransaction, machine)
 step_within machine t (act.Get table key)
     = (answer.Found (at_place (seen_rows machine t) (place_at table key)), machine)
 step_within machine t (act.Scan table)
     = (answer.Rows (contents_of table (seen_rows machine t)), machine)
+step_within machine t (act.Range table low high)
+    = (answer.Rows (contents_between table low high (seen_rows machine t)), machine)
+step_within machine t (act.Total table column low high) = (
+  told_total (numbers_between column low high (contents_of table (seen_rows machine t))),
+  machine,
+)
 step_within machine t (act.Insert table row) =
     write machine t (place_of table row) (Some row)
     (refusal_of_insert machine t (place_of table row))
@@ -134,7 +149,7 @@ step_within machine t act.Abort = (answer.Aborted, without t.session machine)
 -- what a session without one is answered: it begins one, which sees all commits, and else nothing
 -- happens
 abbrev pub step_without : IsolationMachine → ℕ → Act → Answer × IsolationMachine
-step_without machine session act.Begin = (
+step_without machine session (act.Begin checked) = (
   answer.At (length machine.history),
   record machine {
     open_transactions =
@@ -147,6 +162,8 @@ step_without machine session act.Begin = (
 )
 step_without machine session (act.Get table key) = (answer.NoTransaction, machine)
 step_without machine session (act.Scan table) = (answer.NoTransaction, machine)
+step_without machine session (act.Range table low high) = (answer.NoTransaction, machine)
+step_without machine session (act.Total table column low high) = (answer.NoTransaction, machine)
 step_without machine session (act.Insert table row) = (answer.NoTransaction, machine)
 step_without machine session (act.Update table row) = (answer.NoTransaction, machine)
 step_without machine session (act.Delete table key) = (answer.NoTransaction, machine)

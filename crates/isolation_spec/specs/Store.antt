@@ -1,6 +1,8 @@
 -- A store under the machine: it may refuse what the machine would accept, and then nothing changes.
-use Rattle.std.specs.Prelude.{◌≡◌, ◌⊎◌, IsSome}
+use Rattle.std.specs.Prelude.{◌≡◌, ◌⊎◌, IsSome, Option}
 use Rattle.isolation_spec.specs.Machine.{IsolationMachine, step, transaction_of}
+use Rattle.isolation_spec.specs.Reads.{ReadSet}
+use Rattle.isolation_spec.specs.Checked.{step_with}
 use Rattle.isolation_spec.specs.declared.command.Command.{Command}
 use Rattle.isolation_spec.specs.declared.command.Act.{Act}
 use Rattle.isolation_spec.specs.declared.command.Act.TheVariants as act
@@ -19,9 +21,11 @@ pub data Outcome : Type 0 where
 abbrev pub IsChange : Act → Type 0
 IsChange (act.Update table row) = Unit {0}
 IsChange (act.Delete table key) = Unit {0}
-IsChange act.Begin = ⊥
+IsChange (act.Begin checked) = ⊥
 IsChange (act.Get table key) = ⊥
 IsChange (act.Scan table) = ⊥
+IsChange (act.Range table low high) = ⊥
+IsChange (act.Total table column low high) = ⊥
 IsChange (act.Insert table row) = ⊥
 IsChange act.Commit = ⊥
 IsChange act.Abort = ⊥
@@ -29,19 +33,23 @@ IsChange act.Abort = ⊥
 -- the act adds a row
 abbrev pub IsInsert : Act → Type 0
 IsInsert (act.Insert table row) = Unit {0}
-IsInsert act.Begin = ⊥
+IsInsert (act.Begin checked) = ⊥
 IsInsert (act.Get table key) = ⊥
 IsInsert (act.Scan table) = ⊥
+IsInsert (act.Range table low high) = ⊥
+IsInsert (act.Total table column low high) = ⊥
 IsInsert (act.Update table row) = ⊥
 IsInsert (act.Delete table key) = ⊥
 IsInsert act.Commit = ⊥
 IsInsert act.Abort = ⊥
 
--- the act asks for rows
+-- the act asks for rows, or for what a column of them tells
 abbrev pub IsRead : Act → Type 0
 IsRead (act.Get table key) = Unit {0}
 IsRead (act.Scan table) = Unit {0}
-IsRead act.Begin = ⊥
+IsRead (act.Range table low high) = Unit {0}
+IsRead (act.Total table column low high) = Unit {0}
+IsRead (act.Begin checked) = ⊥
 IsRead (act.Insert table row) = ⊥
 IsRead (act.Update table row) = ⊥
 IsRead (act.Delete table key) = ⊥
@@ -52,16 +60,18 @@ IsRead act.Abort = ⊥
 abbrev pub IsAccepted : IsolationMachine → Command → Type 0
 IsAccepted machine command = (step machine command).0 ≡ answer.Accepted
 
--- What a store over the machine may say to a command, and the machine after it: the machine's
--- answer and step; or `Freezing` to a change and `Full` to an insert that the machine accepts, or
--- `Memory` to a read or a write of an open transaction, and then nothing changes.
-abbrev pub Allows : IsolationMachine → Command → Outcome → IsolationMachine → Type 0
-Allows machine command (Answered said) after = step machine command ≡ (said, after)
-Allows machine command Freezing after = IsChange command.act × IsAccepted machine command
+-- What a store over the machine may say to a command, and the machine after it, where a commit
+-- hands in what its transaction read, none where that is plain: the machine's answer and step; or
+-- `Freezing` to a change and `Full` to an insert that the machine accepts, or `Memory` to a read or
+-- a write of an open transaction, and then nothing changes.
+abbrev pub Allows : IsolationMachine → Option ReadSet → Command → Outcome → IsolationMachine
+    → Type 0
+Allows machine reads command (Answered said) after = step_with machine reads command ≡ (said, after)
+Allows machine reads command Freezing after = IsChange command.act × IsAccepted machine command
     × (after ≡ machine)
-Allows machine command Full after = IsInsert command.act × IsAccepted machine command
+Allows machine reads command Full after = IsInsert command.act × IsAccepted machine command
     × (after ≡ machine)
-Allows machine command Memory after =
+Allows machine reads command Memory after =
     (IsRead command.act ⊎ IsChange command.act ⊎ IsInsert command.act)
     × IsSome (transaction_of command.session machine)
     × (after ≡ machine)

@@ -1,4 +1,9 @@
 //! Worked examples of the machine: each is a fact that its definitions compute.
+ghost use Rattle.isolation_spec.specs.CheckedExamples.{WriteSkew, PlainSkew, Phantom, ComesAndGoes};
+ghost use Rattle.isolation_spec.specs.CheckedExamples.{RangesHaveBothEnds, KeyFirst};
+ghost use Rattle.isolation_spec.specs.CheckedExamples.{TableBeforeRange, FirstRangeFirst};
+ghost use Rattle.isolation_spec.specs.CheckedExamples.{OthersCommit, StaleIsFinal, ReadsEnd};
+ghost use Rattle.isolation_spec.specs.CheckedExamples.{RangeOfRows, TotalOfNumbers, TotalIsARead};
 ghost use Rattle.isolation_spec.specs.Examples.{OlderSnapshot, OpenRival, LaterCommit, LastCommit};
 ghost use Rattle.isolation_spec.specs.Examples.{SessionFirst, GoneIsAWrite, OneKeyThrice};
 ghost use Rattle.isolation_spec.specs.Examples.{OwnWrites, NoTransaction, OlderScan};
@@ -87,4 +92,60 @@ pub fn a_store_may_want_memory()
 /// is missing, is full to no update and to no row that stands; and a refusal changes nothing.
 pub fn a_store_refuses_nothing_else()
     ensures { OthersAreNot }
+{}
+
+/// Two transactions read each other's key and write their own: the second to commit is refused
+/// where it is checked.
+pub fn the_second_of_a_write_skew_is_refused()
+    ensures checked { WriteSkew }
+    ensures plain { PlainSkew }
+{}
+
+/// A row that came since into a table that was scanned refuses the commit.
+pub fn a_row_that_a_scan_did_not_see_refuses_the_commit()
+    ensures { Phantom }
+{}
+
+/// A get that found none is a read, and a row that came since and went refuses the commit.
+pub fn a_row_that_came_and_went_refuses_the_commit()
+    ensures { ComesAndGoes }
+{}
+
+/// A key in a range that was read refuses the commit, at both its ends, and one beside it does not.
+pub fn a_range_has_both_its_ends()
+    ensures { RangesHaveBothEnds }
+{}
+
+/// Keys go before tables and tables before ranges; of keys the least is named, of tables the first
+/// declared, of ranges the first read, and of the commits that met it the last.
+pub fn keys_go_before_tables_and_tables_before_ranges()
+    ensures keys { KeyFirst }
+    ensures tables { TableBeforeRange }
+    ensures ranges { FirstRangeFirst }
+{}
+
+/// A transaction without writes commits, and so does one that read its own write or another table.
+pub fn what_nobody_wrote_since_refuses_no_commit()
+    ensures { OthersCommit }
+{}
+
+/// A commit that is refused leaves the transaction with what it read, and is refused again.
+pub fn a_stale_commit_is_final()
+    ensures { StaleIsFinal }
+{}
+
+/// An end drops what was read, and a second begin makes no transaction checked.
+pub fn a_transaction_begins_with_nothing_read()
+    ensures { ReadsEnd }
+{}
+
+/// A range gives the rows between its keys in their order, own writes laid over them.
+pub fn a_range_gives_the_rows_between_its_keys()
+    ensures { RangeOfRows }
+{}
+
+/// A total counts and adds the numbers between its two, and counts as a read of its table.
+pub fn a_total_counts_and_adds_numbers()
+    ensures numbers { TotalOfNumbers }
+    ensures read { TotalIsARead }
 {}

@@ -5,6 +5,8 @@
 pub mod command;
 pub mod examples;
 pub mod place;
+pub mod read;
 
 pub use command::{Act, Answer, Command};
 pub use place::Place;
+pub use read::{KeyRange, Read};

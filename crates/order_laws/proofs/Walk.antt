@@ -9,17 +9,20 @@ use Rattle.std.proofs.lemmas.List.Folds.{list_all-append}
 use Rattle.std.specs.Ordering.{int_eq}
 use Rattle.cell_model.specs.declared.cell.Cell.{Cell}
 use Rattle.cell_model.specs.declared.kind.Kind.TheVariants as kind
-use Rattle.cell_model.specs.Values.{is_integer_of}
+use Rattle.cell_model.specs.Values.{is_between, is_integer_of}
 use Rattle.isolation_spec.specs.Contents.{key_of}
 use Rattle.cell_model.specs.declared.table.TableDecl.{TableDecl}
 use Rattle.workload_spec.specs.declared.command.Command.{Command}
 use Rattle.workload_spec.specs.declared.command.Command.TheVariants as command
 use Rattle.workload_spec.specs.declared.reply.Who.{Who}
+use Rattle.workload_spec.specs.declared.reply.StaleRead.{StaleRead}
+use Rattle.std.proofs.Common.{negsuc, pos, ◌^◌, ◌-◌}
+use Rattle.outcome_spec.specs.Forms.{stale_reply, key_named, table_named, range_named}
 use Rattle.workload_spec.specs.declared.reply.Said.{Said}
 use Rattle.workload_spec.specs.declared.reply.Said.TheVariants as said
 use Rattle.outcome_spec.specs.Entries.{Entry, is_same, snapshot_in}
 use Rattle.outcome_spec.specs.Forms.{Due, begins_with, entry_behind, further, is_silent, is_upkeep, is_worker, is_within, line_count, lines_begun, may_be_silent, next_line, reading, reply_at, replies_due, replies_within, replies_without}
-use Rattle.outcome_spec.specs.Reading.{words_in, row_of, integer_at}
+use Rattle.outcome_spec.specs.Reading.{words_in, row_of, integer_at, u64_at}
 use Rattle.outcome_spec.specs.Tables.{columns_at}
 use Rattle.order_laws.specs.Places.{Rises, is_ahead, is_earlier, is_in_front, is_up_to}
 use Rattle.order_laws.specs.Sides.{is_past, is_own}
@@ -249,16 +252,39 @@ dirty-open-none : (b : Bool) (key : ℤ) → list_all opens_none (if b then said
 dirty-open-none true key = refl
 dirty-open-none false key = refl
 
+-- A total, or none, opens no transaction.
+total-open-none : (b : Bool) (count : ℕ) (sum : ℤ) → list_all opens_none (if b then said.Totalled count sum ∷ [] else []) ≡ true
+total-open-none true count sum = refl
+total-open-none false count sum = refl
+
+-- Where none of two lists opens a transaction, none of both does.
+both-open-none : (a b : List Said) → list_all opens_none a ≡ true → list_all opens_none b ≡ true → list_all opens_none (a ++ b) ≡ true
+both-open-none [] b h k = k
+both-open-none (x ∷ xs) b h k =
+    let parts = and_parts (opens_none x) (list_all opens_none xs) h in
+    and_from (opens_none x) (list_all opens_none (xs ++ b)) parts.0 (both-open-none xs b parts.1 k)
+
+-- A read that a stale commit names, or none, opens no transaction.
+stale-open-none : (words : List (List ℕ)) (at : ℕ) (what : Option StaleRead) → list_all opens_none (stale_reply words at what) ≡ true
+stale-open-none words at None = refl
+stale-open-none words at (Some what) = refl
+
 -- within a transaction no reply opens one
 within-none : (tables : List TableDecl) (words : List (List ℕ)) (behind : List (List ℕ)) (asked : Command) → list_all opens_none (replies_within tables words behind asked) ≡ true
 within-none tables words behind (command.Get table key) = rows-open-none (λ row. int_eq (key_of row) key) (row_of (columns_at tables table) (drop 1 words))
 within-none tables words behind (command.Export table) = dirty-open-none (is_integer_of kind.I64 (integer_at words 1)) (integer_at words 1)
-within-none tables words behind command.Begin = refl
+within-none tables words behind (command.Begin checked) = refl
+within-none tables words behind (command.Range table low high) = refl
+within-none tables words behind (command.Total table column low high) = total-open-none (is_between (negsuc (2 ^ 127 - 1)) (pos (2 ^ 127 - 1)) (integer_at words 2)) (u64_at words 1) (integer_at words 2)
 within-none tables words behind (command.Scan table) = refl
 within-none tables words behind (command.Insert table row) = refl
 within-none tables words behind (command.Update table row) = refl
 within-none tables words behind (command.Delete table key) = refl
-within-none tables words behind command.Commit = refl
+within-none tables words behind command.Commit =
+    both-open-none (stale_reply words 3 (key_named tables words) ++ stale_reply words 3 (table_named tables words)) (stale_reply words 5 (range_named tables words))
+    (both-open-none (stale_reply words 3 (key_named tables words)) (stale_reply words 3 (table_named tables words))
+    (stale-open-none words 3 (key_named tables words)) (stale-open-none words 3 (table_named tables words)))
+    (stale-open-none words 5 (range_named tables words))
 within-none tables words behind command.Abort = refl
 within-none tables words behind command.Observe = refl
 within-none tables words behind command.Prune = refl

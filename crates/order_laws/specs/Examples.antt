@@ -1,5 +1,5 @@
 -- A worked example, as a fact.
-use Rattle.std.specs.Prelude.{ℕ, [], ◌∷◌}
+use Rattle.std.specs.Prelude.{false, ℕ, [], ◌∷◌}
 use Rattle.workload_spec.specs.declared.command.Command.TheVariants as command
 use Rattle.workload_spec.specs.declared.reply.Said.TheVariants as said
 use Rattle.workload_spec.specs.declared.reply.Who.{Who}
@@ -11,7 +11,7 @@ use Rattle.order_laws.specs.Sides.{Sides}
 abbrev pub reply_at : ℕ → Who → ℕ → Entry
 reply_at round who index = record {
   number = 1;
-  command = command.Begin;
+  command = command.Begin false;
   reply = record { round = round; who = who; index = index; said = said.InTransaction };
 }
 

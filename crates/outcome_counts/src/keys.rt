@@ -160,7 +160,8 @@ pub fn commit_told(reply: &KeptReply<'_>) -> Option<u64>
     }
 }
 
-/// The number that the reply shows: a snapshot's, a commit's, that of a conflict, or an export's.
+/// The number that the reply shows: a snapshot's, a commit's, that of a conflict or a stale read, or
+/// an export's.
 pub(crate) fn shown_told(reply: &KeptReply<'_>) -> Option<u64>
     ensures { result ≡ number_shown (entry_of reply.now).reply.said }
 {
@@ -168,6 +169,7 @@ pub(crate) fn shown_told(reply: &KeptReply<'_>) -> Option<u64>
         Told::At(number) | Told::ConflictCommit(number) => Some(*number),
         Told::Committed(number) => *number,
         Told::Exported(export) => Some(export.number),
+        Told::Stale(stale) => Some(stale.number),
         _ => None,
     }
 }

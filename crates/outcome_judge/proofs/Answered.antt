@@ -5,10 +5,6 @@ use Rattle.workload_spec.specs.declared.script.Script.{Script}
 use Rattle.outcome_spec.specs.Entries.{Entry}
 use Rattle.outcome_spec.specs.Explained.{failing_line, replies_of, unsound_line}
 use Rattle.outcome_spec.specs.Runs.{run_of}
-use Rattle.output_read.specs.declared.fault.ReadFault.{ReadFault}
-use Rattle.output_read.specs.declared.fault.ReadFault.TheVariants as read
-use Rattle.outcome_judge.specs.declared.fault.ExplainFault.{ExplainFault}
-use Rattle.outcome_judge.specs.declared.fault.ExplainFault.TheVariants as fault
 
 -- The line at which an output fails, by what was read of it.
 abbrev answer-of : Script → Result (List Entry) ℕ → Option ℕ

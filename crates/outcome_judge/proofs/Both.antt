@@ -1,11 +1,12 @@
 -- The conditions of a sound reply, taken together.
-use Rattle.std.proofs.Common.{◌≡◌, Bool, true, false, ◌&&◌, refl, sym}
+use Rattle.std.proofs.Common.{◌≡◌, Bool, true, false, ◌&&◌, refl, sym, ap}
 use Rattle.outcome_spec.specs.Answers.{reads_hold, writes_hold}
 use Rattle.outcome_spec.specs.Conflicts.{conflicts_hold}
 use Rattle.outcome_spec.specs.Entries.{Entry}
 use Rattle.outcome_spec.specs.Explained.{is_sound}
 use Rattle.outcome_spec.specs.Numbers.{commit_numbers_hold, snapshot_numbers_hold}
 use Rattle.outcome_spec.specs.Runs.{Run}
+use Rattle.outcome_spec.specs.Stale.{reads_last}
 use Rattle.outcome_spec.specs.Upkeep.{exports_hold, freezing_holds, full_holds, upkeep_holds}
 use Rattle.outcome_judge.specs.Judged.{accesses_hold, conflicts_and_views_hold, counts_hold, views_hold}
 
@@ -74,42 +75,40 @@ pub is-last : (a b v : Bool) → true ≡ a → v ≡ b → v ≡ (a && b)
 is-last true b v g h = h
 is-last false b v g h = absurd (never (sym g))
 
--- ---- three in turn
+-- ---- five in turn
 
--- three that hold in turn hold however they are paired
-pub in-turn : (a b c : Bool) → (a && (b && c)) ≡ ((a && b) && c)
-in-turn false b c = refl
-in-turn true b c = refl
+-- five that hold in turn hold however they are paired
+pub five-in-turn : (a b c d e : Bool) → (a && ((b && c) && (d && e))) ≡ (((a && b) && d) && (c && e))
+five-in-turn false b c d e = refl
+five-in-turn true false c d e = refl
+five-in-turn true true false false e = refl
+five-in-turn true true false true e = refl
+five-in-turn true true true d e = refl
 
 -- ---- all of them, in the order of the three parts and in that of the definition
 
--- The nine conditions, taken together in another order.
-in-order : (c s r w k f u x p : Bool) → ((c && s && f && u && p) && (k && (r && w && x))) ≡ (c && s && r && w && k && f && u && x && p)
-in-order false s r w k f u x p = refl
-in-order true false r w k f u x p = refl
-in-order true true false w k false u x p = refl
-in-order true true true false k false u x p = refl
-in-order true true true true false false u x p = refl
-in-order true true true true true false u x p = refl
-in-order true true false w k true false x p = refl
-in-order true true true false k true false x p = refl
-in-order true true true true false true false x p = refl
-in-order true true true true true true false x p = refl
-in-order true true false w k true true x false = refl
-in-order true true true false k true true x false = refl
-in-order true true true true false true true x false = refl
-in-order true true true true true true true false false = refl
-in-order true true true true true true true true false = refl
-in-order true true false w false true true x true = refl
-in-order true true true false false true true x true = refl
-in-order true true true true false true true x true = refl
-in-order true true false w true true true x true = refl
-in-order true true true false true true true x true = refl
-in-order true true true true true true true false true = refl
-in-order true true true true true true true true true = refl
+-- The ten conditions, taken together in another order.
+in-order : (a f u p k l r w x : Bool) → ((((a && f) && u) && p) && ((k && l) && ((r && w) && x))) ≡ ((((((((a && r) && w) && k) && f) && u) && x) && p) && l)
+in-order false f u p k l r w x = refl
+in-order true f u p k l r w x = by f u p k l r w x
+  where
+    no : (b : Bool) → (b && false) ≡ false
+    no true = refl
+    no false = refl
+
+    by : (f u p k l r w x : Bool) → (((f && u) && p) && ((k && l) && ((r && w) && x))) ≡ (((((((r && w) && k) && f) && u) && x) && p) && l)
+    by false u p k l r w x = sym (ap (λ (b : Bool). ((((b && u) && x) && p) && l)) (no ((r && w) && k)))
+    by true false p k l r w x = sym (ap (λ (b : Bool). (((b && x) && p) && l)) (no (((r && w) && k) && true)))
+    by true true false k l r w x = sym (ap (λ (b : Bool). b && l) (no (((((r && w) && k) && true) && true) && x)))
+    by true true true false l r w x = sym (ap (λ (b : Bool). (((((b && true) && true) && x) && true) && l)) (no (r && w)))
+    by true true true true false r w x = sym (no (((((((r && w) && true) && true) && true) && x) && true)))
+    by true true true true true false w x = refl
+    by true true true true true true false x = refl
+    by true true true true true true true false = refl
+    by true true true true true true true true = refl
 
 -- a reply is sound exactly where the conditions of the three parts hold
 pub sound-in-order : (run : Run) (entry : Entry) → (counts_hold run entry && conflicts_and_views_hold run entry) ≡ is_sound run entry
 sound-in-order run entry =
-    in-order (commit_numbers_hold run entry) (snapshot_numbers_hold run entry) (reads_hold run entry) (writes_hold run entry) (conflicts_hold run entry)
-    (freezing_holds run entry) (full_holds run entry) (exports_hold run entry) (upkeep_holds run entry)
+    in-order (commit_numbers_hold run entry && snapshot_numbers_hold run entry) (freezing_holds run entry) (full_holds run entry) (upkeep_holds run entry) (conflicts_hold run entry) (reads_last run entry)
+    (reads_hold run entry) (writes_hold run entry) (exports_hold run entry)

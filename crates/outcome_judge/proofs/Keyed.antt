@@ -98,7 +98,9 @@ keyed-command : (asked : Command) → IsKeyedChange (write_of asked)
 keyed-command (command.Insert table row) = refl
 keyed-command (command.Update table row) = refl
 keyed-command (command.Delete table key) = tt
-keyed-command command.Begin = tt
+keyed-command (command.Begin checked) = tt
+keyed-command (command.Range table low high) = tt
+keyed-command (command.Total table column low high) = tt
 keyed-command (command.Get table key) = tt
 keyed-command (command.Scan table) = tt
 keyed-command command.Commit = tt

@@ -25,8 +25,12 @@ pub mod Updating
 pub mod Whole
 pub mod Noting
 pub mod Numbering
+pub mod Targets
+pub mod Threads
 pub mod Valuing
+pub mod ReadsLast
 pub mod Both
 pub mod Found
 pub mod Answered
 pub mod Ends
+pub mod Asking

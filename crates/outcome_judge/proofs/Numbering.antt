@@ -4,19 +4,20 @@ use Rattle.std.specs.BTreeMap.{insert_entry}
 use Rattle.std.specs.List.{filter, filter_map, last_or, list_all, list_any, range_with_len}
 use Rattle.std.specs.List.Sorted.{IsNonDecreasing, IsNonDecreasingBy}
 use Rattle.std.specs.Option.{option_map_or}
-use Rattle.std.specs.Ordering.{nat_cmp, is_eq}
-use Rattle.std.specs.Prelude.{◌==◌, is_some, option_and_then, slice_index_or}
+use Rattle.std.specs.Ordering.{nat_cmp, match_ordering}
+use Rattle.std.specs.declared.cmp.Ordering.{Ordering}
+use Rattle.std.specs.declared.cmp.Ordering.TheVariants.{Less, Equal, Greater}
+use Rattle.std.specs.Prelude.{◌==◌, option_and_then, slice_index_or}
 use Rattle.std.proofs.lemmas.Bool.{and_parts, and_from, not-true}
 use Rattle.std.proofs.lemmas.Bool.Decides.{nat_tests}
 use Rattle.std.proofs.lemmas.List.Elements.{filter-append}
 use Rattle.std.proofs.lemmas.List.Folds.{list_all-append, list_any-append}
 use Rattle.std.proofs.lemmas.List.FromFn.{get_or-map-range_with_len}
 use Rattle.cell_model.specs.declared.cell.Cell.{Cell}
-use Rattle.isolation_spec.specs.Contents.{WriteSet, at_place, is_place, place_cmp}
-use Rattle.isolation_spec.specs.Machine.{write_set_at, writes_place}
+use Rattle.isolation_spec.specs.Contents.{WriteSet, place_cmp}
+use Rattle.isolation_spec.specs.Machine.{write_set_at}
 use Rattle.isolation_spec.specs.declared.place.Place.{Place}
-use Rattle.isolation_laws.proofs.Entries.{lookup-insert_entry}
-use Rattle.isolation_laws.proofs.Rows.{place_cmp-total}
+use Rattle.timeline_laws.proofs.Placed.{one-place}
 use Rattle.timeline_laws.proofs.Ranges.{range-push}
 use Rattle.timeline_laws.proofs.Tests.{or-false}
 use Rattle.mark_index.specs.Lists.{is_last, marks_at, with_mark}
@@ -26,16 +27,16 @@ use Rattle.outcome_spec.specs.Entries.{Entry}
 use Rattle.outcome_spec.specs.Runs.{Span, accepted_write, commit_count, commits_as, committed_writes, transactions_of, transaction_with, writes_in}
 use Rattle.outcome_counts.specs.Openings.{AreOpenings, opening_of, openings_in}
 use Rattle.outcome_judge.specs.Commits.{first_of}
-use Rattle.outcome_judge.specs.HistoryKept.{key_cmp, place_in}
+use Rattle.outcome_judge.specs.HistoryKept.{place_in}
 use Rattle.outcome_judge.specs.Own.{AreChanges, changes_of, own_writes, written_by}
 use Rattle.outcome_judge.specs.Seen.{IsOutput}
 use Rattle.outcome_judge.specs.Timed.{TimedWrite, up_to}
 use Rattle.outcome_judge.specs.declared.changes.Change.{Change}
 use Rattle.outcome_judge.specs.declared.changes.Changes.{Changes}
-use Rattle.outcome_judge.specs.declared.keys.RowKey.{RowKey}
+use Rattle.outcome_judge.specs.declared.keys.Target.{Target}
+use Rattle.outcome_judge.specs.Targets.{covers, wrote}
 use Rattle.outcome_judge.proofs.History.{FirstAt, commits-end, first-none, first-some}
 use Rattle.outcome_judge.proofs.Laid.{entered}
-use Rattle.outcome_judge.proofs.Noted.{symmetric}
 use Rattle.outcome_judge.proofs.Own.{changes-all}
 use Rattle.outcome_judge.proofs.Spanned.{IsSpan, spanned, unspanned}
 use Rattle.outcome_judge.specs.Writers.{history_in, is_written, numbers_up_to}
@@ -76,43 +77,65 @@ noted-step {M = M} seen mk base cur_of cur new false true sees none is same now 
     now ∙ ap (λ (c : Bool). with_mark (not c) (mk cur_of) cur) last ∙ ap (λ (ms : List M). cur ++ mk ms ∷ []) at ∙ ap (λ (ms : List M). ms ++ mk base ∷ []) is
 
 -- what is changed, with a change more
-pub written-step : (of : RowKey) (bound : ℕ) (own : List Change) (i : ℕ) (change : Change) → take (i + 1) own ≡ take i own ++ change ∷ [] → (b : Bool) → nat_le change.left.time bound ≡ b
-    → is_written of bound (take (i + 1) own) ≡ (is_written of bound (take i own) || (b && is_eq (key_cmp change.of of)))
+pub written-step : (of : Target) (bound : ℕ) (own : List Change) (i : ℕ) (change : Change) → take (i + 1) own ≡ take i own ++ change ∷ [] → (b : Bool) → nat_le change.left.time bound ≡ b
+    → is_written of bound (take (i + 1) own) ≡ (is_written of bound (take i own) || (b && covers of (place_in change.of)))
 written-step of bound own i change next b is =
     ap (is_written of bound) next
-    ∙ list_any-append (λ (c : Change). nat_le c.left.time bound && is_eq (key_cmp c.of of)) (take i own) (change ∷ [])
-    ∙ ap (λ (c : Bool). is_written of bound (take i own) || c) (or-false (nat_le change.left.time bound && is_eq (key_cmp change.of of)))
-    ∙ ap (λ (c : Bool). is_written of bound (take i own) || (c && is_eq (key_cmp change.of of))) is
+    ∙ list_any-append (λ (c : Change). nat_le c.left.time bound && covers of (place_in c.of)) (take i own) (change ∷ [])
+    ∙ ap (λ (c : Bool). is_written of bound (take i own) || c) (or-false (nat_le change.left.time bound && covers of (place_in change.of)))
+    ∙ ap (λ (c : Bool). is_written of bound (take i own) || (c && covers of (place_in change.of))) is
 
 -- ---- what a write set has
 
--- A write set with changes entered has a place that it had, or that a change has.
-entered-writes : (place : Place) (changes : List (Place × Option (List Cell))) (writes : WriteSet)
-    → writes_place place (entered writes changes) ≡ (writes_place place writes || list_any (λ (c : Place × Option (List Cell)). is_place place c.0) changes)
-entered-writes place [] writes = sym (or-false (writes_place place writes))
-entered-writes place (change ∷ changes) writes =
-    entered-writes place changes (insert_entry place_cmp writes change.0 change.1)
-    ∙ ap (λ (o : Option (Option (List Cell))). is_some o || list_any (λ (c : Place × Option (List Cell)). is_place place c.0) changes) (lookup-insert_entry place_cmp-total writes change.0 change.1 place)
-    ∙ by (is_place place change.0) (at_place writes place)
+-- An insertion has a place of a target where the write set had one, or at the place inserted.
+wrote-insert : (of : Target) (writes : WriteSet) (place : Place) (row : Option (List Cell)) → wrote of (insert_entry place_cmp writes place row) ≡ (wrote of writes || covers of place)
+wrote-insert of [] place row = or-false (covers of place)
+wrote-insert of (write ∷ writes) place row = by (wrote-insert of writes place row) (place_cmp place write.0) refl
   where
-    by : (b : Bool) (o : Option (Option (List Cell))) → (is_some (cond b (Some change.1) o) || list_any (λ (c : Place × Option (List Cell)). is_place place c.0) changes)
-        ≡ (is_some o || (b || list_any (λ (c : Place × Option (List Cell)). is_place place c.0) changes))
-    by true None = refl
-    by true (Some row) = refl
-    by false o = refl
+    turned : (a b : Bool) → (a || b) ≡ (b || a)
+    turned true true = refl
+    turned true false = refl
+    turned false true = refl
+    turned false false = refl
 
--- The changes up to a bound have a row's place exactly where the row is written up to it.
-changed-any : (of : RowKey) (bound : ℕ) (own : List Change)
-    → list_any (λ (c : Place × Option (List Cell)). is_place (place_in of) c.0) (changes_of (up_to bound (map written_by own))) ≡ is_written of bound own
+    again : (a b : Bool) → (a || b) ≡ ((a || b) || a)
+    again true b = refl
+    again false true = refl
+    again false false = refl
+
+    grouped : (a b c : Bool) → (a || (b || c)) ≡ ((a || b) || c)
+    grouped true b c = refl
+    grouped false b c = refl
+
+    by : wrote of (insert_entry place_cmp writes place row) ≡ (wrote of writes || covers of place) → (o : Ordering) → place_cmp place write.0 ≡ o
+        → wrote of (match_ordering o ((place, row) ∷ write ∷ writes) ((write.0, row) ∷ writes) (write ∷ insert_entry place_cmp writes place row)) ≡ (wrote of (write ∷ writes) || covers of place)
+    by rest Less is = turned (covers of place) (covers of write.0 || wrote of writes)
+    by rest Equal is = again (covers of write.0) (wrote of writes) ∙ ap (λ (p : Place). (covers of write.0 || wrote of writes) || covers of p) (sym (one-place place write.0 is))
+    by rest Greater is = ap (λ (b : Bool). covers of write.0 || b) rest ∙ grouped (covers of write.0) (wrote of writes) (covers of place)
+
+-- A write set with changes entered has a place of a target that it had, or that a change has.
+entered-writes : (of : Target) (changes : List (Place × Option (List Cell))) (writes : WriteSet)
+    → wrote of (entered writes changes) ≡ (wrote of writes || list_any (λ (c : Place × Option (List Cell)). covers of c.0) changes)
+entered-writes of [] writes = sym (or-false (wrote of writes))
+entered-writes of (change ∷ changes) writes =
+    entered-writes of changes (insert_entry place_cmp writes change.0 change.1)
+    ∙ ap (λ (b : Bool). b || list_any (λ (c : Place × Option (List Cell)). covers of c.0) changes) (wrote-insert of writes change.0 change.1)
+    ∙ by (wrote of writes) (covers of change.0)
+  where
+    by : (a b : Bool) → ((a || b) || list_any (λ (c : Place × Option (List Cell)). covers of c.0) changes) ≡ (a || (b || list_any (λ (c : Place × Option (List Cell)). covers of c.0) changes))
+    by true b = refl
+    by false b = refl
+
+-- The changes up to a bound have a place of a target exactly where it is written up to it.
+changed-any : (of : Target) (bound : ℕ) (own : List Change)
+    → list_any (λ (c : Place × Option (List Cell)). covers of c.0) (changes_of (up_to bound (map written_by own))) ≡ is_written of bound own
 changed-any of bound [] = refl
 changed-any of bound (change ∷ own) = by (nat_le change.left.time bound) (changed-any of bound own)
   where
-    by : (b : Bool) → list_any (λ (c : Place × Option (List Cell)). is_place (place_in of) c.0) (changes_of (up_to bound (map written_by own))) ≡ is_written of bound own
-        → list_any (λ (c : Place × Option (List Cell)). is_place (place_in of) c.0) (changes_of (cond b (written_by change ∷ up_to bound (map written_by own)) (up_to bound (map written_by own))))
-        ≡ ((b && is_eq (key_cmp change.of of)) || is_written of bound own)
-    by true rest =
-        ap (λ (b : Bool). b || list_any (λ (c : Place × Option (List Cell)). is_place (place_in of) c.0) (changes_of (up_to bound (map written_by own)))) (symmetric (place_in of) (place_in change.of))
-        ∙ ap (λ (b : Bool). is_eq (key_cmp change.of of) || b) rest
+    by : (b : Bool) → list_any (λ (c : Place × Option (List Cell)). covers of c.0) (changes_of (up_to bound (map written_by own))) ≡ is_written of bound own
+        → list_any (λ (c : Place × Option (List Cell)). covers of c.0) (changes_of (cond b (written_by change ∷ up_to bound (map written_by own)) (up_to bound (map written_by own))))
+        ≡ ((b && covers of (place_in change.of)) || is_written of bound own)
+    by true rest = ap (λ (b : Bool). covers of (place_in change.of) || b) rest
     by false rest = rest
 
 -- ---- what a commit wrote
@@ -123,11 +146,11 @@ module _ (openings : List (Option ℕ)) (entries : List Entry) (output : IsOutpu
   os = openings_in entries
 
   -- the transaction that was opened there wrote the row up to this place
-  abbrev pub wrote_from : RowKey → ℕ → Option ℕ → Bool
+  abbrev pub wrote_from : Target → ℕ → Option ℕ → Bool
   wrote_from of place opening = option_map_or (λ owner. is_written of place (marks_at nat_cmp changes.own owner)) opening false
 
   -- the transaction whose commit stands there wrote the row
-  abbrev pub wrote_at : RowKey → Option ℕ → Bool
+  abbrev pub wrote_at : Target → Option ℕ → Bool
   wrote_at of first = option_map_or (λ place. wrote_from of place (opening_of openings place)) first false
 
   -- What the transaction of a line wrote, if there is such a line.
@@ -139,32 +162,32 @@ module _ (openings : List (Option ℕ)) (entries : List Entry) (output : IsOutpu
   own owner = changes-all openings entries output.own.long changes changed owner ∙ ap (λ (o : List (Option ℕ)). own_writes owner 0 o entries) output.each
 
   -- What a commit's line wrote has a row where the changes kept of its transaction have it.
-  wrote-found : (of : RowKey) (number place : ℕ) → (first : FirstAt (commits_as number) 0 entries place) → (opening : Option ℕ) → opening_of openings place ≡ opening
-      → writes_place (place_in of) (of_line (Some first.entry)) ≡ wrote_from of place opening
+  wrote-found : (of : Target) (number place : ℕ) → (first : FirstAt (commits_as number) 0 entries place) → (opening : Option ℕ) → opening_of openings place ≡ opening
+      → wrote of (of_line (Some first.entry)) ≡ wrote_from of place opening
   wrote-found of number place first None is =
       let far : length first.front ≡ place = (let f = first.far in omega (arith, f)) in
       let none = unspanned entries first.front first.entry first.rest first.whole output.rises output.outside (subst (λ (o : List (Option ℕ)). AreOpenings entries o) output.each output.own)
       (ap (opening_of os) far ∙ ap (λ (o : List (Option ℕ)). opening_of o place) (sym output.each) ∙ is) in
-      ap (λ (o : Option Span). writes_place (place_in of) (option_map_or (λ t. writes_in t.replies) o [])) none
+      ap (λ (o : Option Span). wrote of (option_map_or (λ t. writes_in t.replies) o [])) none
   wrote-found of number place first (Some owner) is =
       let far : length first.front ≡ place = (let f = first.far in omega (arith, f)) in
       let its : IsSpan entries (length first.front) first.entry owner =
       spanned entries first.front first.entry first.rest first.whole output.rises output.outside (subst (λ (o : List (Option ℕ)). AreOpenings entries o) output.each output.own) owner
       (ap (opening_of os) far ∙ ap (λ (o : List (Option ℕ)). opening_of o place) (sym output.each) ∙ is) in
-      ap (λ (o : Option Span). writes_place (place_in of) (option_map_or (λ t. writes_in t.replies) o [])) its.found
-      ∙ entered-writes (place_in of) (filter_map accepted_write its.span.replies) []
-      ∙ ap (list_any (λ (c : Place × Option (List Cell)). is_place (place_in of) c.0)) (its.ended (commits-end number first.entry.reply.said first.passes))
-      ∙ ap (λ (n : ℕ). list_any (λ (c : Place × Option (List Cell)). is_place (place_in of) c.0) (changes_of (up_to n (own_writes owner 0 os entries)))) far
-      ∙ ap (λ (ws : List TimedWrite). list_any (λ (c : Place × Option (List Cell)). is_place (place_in of) c.0) (changes_of (up_to place ws))) (sym (own owner))
+      ap (λ (o : Option Span). wrote of (option_map_or (λ t. writes_in t.replies) o [])) its.found
+      ∙ entered-writes of (filter_map accepted_write its.span.replies) []
+      ∙ ap (list_any (λ (c : Place × Option (List Cell)). covers of c.0)) (its.ended (commits-end number first.entry.reply.said first.passes))
+      ∙ ap (λ (n : ℕ). list_any (λ (c : Place × Option (List Cell)). covers of c.0) (changes_of (up_to n (own_writes owner 0 os entries)))) far
+      ∙ ap (λ (ws : List TimedWrite). list_any (λ (c : Place × Option (List Cell)). covers of c.0) (changes_of (up_to place ws))) (sym (own owner))
       ∙ changed-any of place (marks_at nat_cmp changes.own owner)
 
   -- a commit wrote a place where the changes of its transaction have it
-  pub wrote-line : (of : RowKey) (number : ℕ) (first : Option ℕ) → first_of (commits_as number) entries ≡ first
-      → writes_place (place_in of) (committed_writes entries (transactions_of entries) number) ≡ wrote_at of first
-  wrote-line of number None is = ap (λ (o : Option Entry). writes_place (place_in of) (of_line o)) (first-none (commits_as number) 0 entries is)
+  pub wrote-line : (of : Target) (number : ℕ) (first : Option ℕ) → first_of (commits_as number) entries ≡ first
+      → wrote of (committed_writes entries (transactions_of entries) number) ≡ wrote_at of first
+  wrote-line of number None is = ap (λ (o : Option Entry). wrote of (of_line o)) (first-none (commits_as number) 0 entries is)
   wrote-line of number (Some place) is =
       let first = first-some (commits_as number) 0 entries place is in
-      ap (λ (o : Option Entry). writes_place (place_in of) (of_line o)) first.found ∙ wrote-found of number place first (opening_of openings place) refl
+      ap (λ (o : Option Entry). wrote of (of_line o)) first.found ∙ wrote-found of number place first (opening_of openings place) refl
 
 -- ---- the numbers with a commit more
 
@@ -181,17 +204,17 @@ put-by true xs n = refl
 put-by false xs n = append-nil xs
 
 -- with one more commit a place has its number too, where that wrote it
-pub numbers-next : (entries : List Entry) (at : ℕ) (place : Place) → at < commit_count entries
-    → numbers_up_to (at + 1) entries place ≡ with_mark (writes_place place (committed_writes entries (transactions_of entries) (at + 1))) (at + 1) (numbers_up_to at entries place)
-numbers-next entries at place inside =
-    let test = λ (number : ℕ). nat_lt 0 number && writes_place place (write_set_at (history_in entries) number) in
+pub numbers-next : (entries : List Entry) (at : ℕ) (of : Target) → at < commit_count entries
+    → numbers_up_to (at + 1) entries of ≡ with_mark (wrote of (committed_writes entries (transactions_of entries) (at + 1))) (at + 1) (numbers_up_to at entries of)
+numbers-next entries at of inside =
+    let test = λ (number : ℕ). nat_lt 0 number && wrote of (write_set_at (history_in entries) number) in
     let above : nat_lt 0 (at + 1) ≡ true = grind (arith, nat_tests) in
-    let is : test (at + 1) ≡ writes_place place (committed_writes entries (transactions_of entries) (at + 1)) =
-    ap (λ (b : Bool). b && writes_place place (write_set_at (history_in entries) (at + 1))) above ∙ ap (writes_place place) (history-at entries at inside) in
+    let is : test (at + 1) ≡ wrote of (committed_writes entries (transactions_of entries) (at + 1)) =
+    ap (λ (b : Bool). b && wrote of (write_set_at (history_in entries) (at + 1))) above ∙ ap (wrote of) (history-at entries at inside) in
     ap (filter test) (range-push at)
     ∙ filter-append test (range_with_len 1 at) ((at + 1) ∷ [])
-    ∙ put-by (test (at + 1)) (numbers_up_to at entries place) (at + 1)
-    ∙ ap (λ (b : Bool). with_mark b (at + 1) (numbers_up_to at entries place)) is
+    ∙ put-by (test (at + 1)) (numbers_up_to at entries of) (at + 1)
+    ∙ ap (λ (b : Bool). with_mark b (at + 1) (numbers_up_to at entries of)) is
 
 -- a higher number keeps them rising
 pub numbers-rise : (b : Bool) (n : ℕ) (xs : List ℕ) → IsNonDecreasing xs → list_all (λ number. nat_lt number n) xs ≡ true → IsNonDecreasing (with_mark b n xs)

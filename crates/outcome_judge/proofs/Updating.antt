@@ -6,7 +6,8 @@ use Rattle.std.specs.Prelude.{option_map, option_and_then, ◌==◌}
 use Rattle.std.proofs.lemmas.Bool.{and_parts, and_from}
 use Rattle.std.proofs.lemmas.Bool.Decides.{nat_tests}
 use Rattle.cell_model.specs.declared.table.TableDecl.{TableDecl}
-use Rattle.isolation_spec.specs.Machine.{later_writers}
+use Rattle.isolation_spec.specs.Contents.{WriteSet}
+use Rattle.isolation_spec.specs.Machine.{later_commits, later_writers, writes_place}
 use Rattle.isolation_spec.specs.declared.place.Place.{Place}
 use Rattle.outcome_spec.specs.Conflicts.{is_committed_not_after, is_first_updater, names_commit, passes_no_commit}
 use Rattle.outcome_spec.specs.Entries.{Entry, before, commit_in, is_reply, is_same, snapshot_in}
@@ -38,9 +39,9 @@ later-test : (snapshot n : ℕ) (writes : Bool) → (nat_lt snapshot n && writes
 later-test snapshot n true = grind (arith, nat_tests)
 later-test snapshot n false = grind (arith, nat_tests)
 
--- the later writers of a place are its numbers above the snapshot
-pub later-above : (entries : List Entry) (snapshot : ℕ) (place : Place) → later_writers (history_in entries) snapshot place ≡ filter (nat_lt snapshot) (numbers_of entries place)
-later-above entries snapshot place = filter-twice (nat_lt snapshot) _ _ (λ n. later-test snapshot n _) _
+-- the later commits that pass a test are those of all that are above the snapshot
+pub later-above : (entries : List Entry) (snapshot : ℕ) (test : WriteSet → Bool) → later_commits (history_in entries) snapshot test ≡ filter (nat_lt snapshot) (later_commits (history_in entries) 0 test)
+later-above entries snapshot test = filter-twice (nat_lt snapshot) _ _ (λ n. later-test snapshot n _) _
 
 -- ---- none before
 
@@ -55,7 +56,7 @@ passes-commit tables entries t place entry =
     ∙ all-agree (λ later. not (nat_lt t.snapshot later) || is_free entries entry ns t.snapshot later) (λ later. not (nat_lt t.snapshot later) || not (comes_before entries entry ns later))
     (λ later. same later (comes_before entries entry ns later)) ns
     ∙ sym (all-filter (λ later. not (comes_before entries entry ns later)) (nat_lt t.snapshot) ns)
-    ∙ ap (list_all (λ later. not (comes_before entries entry ns later))) (sym (later-above entries t.snapshot place))
+    ∙ ap (list_all (λ later. not (comes_before entries entry ns later))) (sym (later-above entries t.snapshot (writes_place place)))
   where
     same : (later : ℕ) (comes : Bool) → (not (nat_lt t.snapshot later) || (nat_le later t.snapshot || not comes)) ≡ (not (nat_lt t.snapshot later) || not comes)
     same later true = grind (arith, nat_tests)
@@ -79,22 +80,30 @@ number-above snapshot number ns =
     turned : (later : ℕ) → (eqb later number && nat_lt snapshot later) ≡ (nat_lt snapshot number && eqb later number)
     turned later = grind (arith, nat_tests)
 
--- a commit may be named where its number is kept and the highest of those told before
-pub names-commit : (tables : List TableDecl) (entries : List Entry) (t : Span) (place : Place) (entry : Entry) (number : ℕ)
-    → (((nat_lt t.snapshot number && is_number_in (numbers_of entries place) number) && is_committed_not_after (run_of tables entries) entry number)
-    && nat_le (highest (number_told entries (numbers_of entries place)) (before entries entry)) number) ≡ names_commit (run_of tables entries) t place entry number
-names-commit tables entries t place entry number =
-    let ns = numbers_of entries place in
+-- a commit that passes a test may be named where its number is kept and the highest of those told
+-- before
+pub names-by : (tables : List TableDecl) (entries : List Entry) (t : Span) (test : WriteSet → Bool) (entry : Entry) (number : ℕ) → let ns = later_commits (history_in entries) 0 test in
+    (((nat_lt t.snapshot number && is_number_in ns number) && is_committed_not_after (run_of tables entries) entry number) && nat_le (highest (number_told entries ns) (before entries entry)) number)
+    ≡ ((list_any (λ later. later == number) (later_commits (history_in entries) t.snapshot test) && is_committed_not_after (run_of tables entries) entry number)
+    && list_all (is_free entries entry (later_commits (history_in entries) 0 test) number) (later_commits (history_in entries) t.snapshot test))
+names-by tables entries t test entry number =
+    let ns = later_commits (history_in entries) 0 test in
     let told = is_committed_not_after (run_of tables entries) entry number in
     under (nat_lt t.snapshot number) (is_number_in ns number) told (nat_le (highest (number_told entries ns) (before entries entry)) number)
     (list_all (is_free entries entry ns number) (filter (nat_lt t.snapshot) ns))
     (λ above. none-above entries entry ns t.snapshot number (grind (arith, nat_tests, above)))
     ∙ ap (λ (b : Bool). (b && told) && list_all (is_free entries entry ns number) (filter (nat_lt t.snapshot) ns)) (sym (number-above t.snapshot number ns))
-    ∙ ap (λ (ms : List ℕ). (list_any (λ later. later == number) ms && told) && list_all (is_free entries entry ns number) ms) (sym (later-above entries t.snapshot place))
+    ∙ ap (λ (ms : List ℕ). (list_any (λ later. later == number) ms && told) && list_all (is_free entries entry ns number) ms) (sym (later-above entries t.snapshot test))
   where
     under : (a b c d e : Bool) → (a ≡ true → d ≡ e) → (((a && b) && c) && d) ≡ (((a && b) && c) && e)
     under true b c d e h = ap (λ (x : Bool). (b && c) && x) (h refl)
     under false b c d e h = refl
+
+-- so may one that wrote a place
+pub names-commit : (tables : List TableDecl) (entries : List Entry) (t : Span) (place : Place) (entry : Entry) (number : ℕ)
+    → (((nat_lt t.snapshot number && is_number_in (numbers_of entries place) number) && is_committed_not_after (run_of tables entries) entry number)
+    && nat_le (highest (number_told entries (numbers_of entries place)) (before entries entry)) number) ≡ names_commit (run_of tables entries) t place entry number
+names-commit tables entries t place entry number = names-by tables entries t (writes_place place) entry number
 
 -- ---- the first to update
 
@@ -110,7 +119,7 @@ first-updater tables entries span place t is =
     by : (committed : Option ℕ) → option_map_or (λ number. nat_le (count_below number (numbers_of entries place)) (count_up_to span.snapshot (numbers_of entries place))) committed true
         ≡ option_map_or (λ number. list_all (nat_le number) (later_writers (history_in entries) span.snapshot place)) committed true
     by None = refl
-    by (Some number) = none-between span.snapshot number (numbers_of entries place) ∙ ap (list_all (nat_le number)) (sym (later-above entries span.snapshot place))
+    by (Some number) = none-between span.snapshot number (numbers_of entries place) ∙ ap (list_all (nat_le number)) (sym (later-above entries span.snapshot (writes_place place)))
 
 -- ---- whose transaction it is
 

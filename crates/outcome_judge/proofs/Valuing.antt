@@ -8,8 +8,7 @@ use Rattle.std.proofs.lemmas.Bool.Decides.{nat_tests}
 use Rattle.std.proofs.lemmas.List.FromFn.{length-map-range_with_len}
 use Rattle.std.proofs.lemmas.Option.{same_Some}
 use Rattle.workload_spec.specs.declared.reply.Who.{Who}
-use Rattle.isolation_spec.specs.Machine.{write_set_at, writes_place}
-use Rattle.isolation_spec.specs.declared.place.Place.{Place}
+use Rattle.isolation_spec.specs.Machine.{write_set_at}
 use Rattle.mark_index.specs.Lists.{with_mark}
 use Rattle.mark_index.specs.Marks.{next_peak}
 use Rattle.mark_index.specs.declared.marks.Peak.{Peak}
@@ -19,12 +18,12 @@ use Rattle.order_laws.specs.Places.{Rises, is_ahead, is_earlier}
 use Rattle.order_laws.proofs.Places.{Behind, Beside, Own, ahead-cases, earlier-itself, front-ahead, same-is}
 use Rattle.outcome_counts.proofs.Starts.{get-at}
 use Rattle.outcome_judge.specs.Commits.{first_of}
-use Rattle.outcome_judge.specs.HistoryKept.{place_in}
-use Rattle.outcome_judge.specs.declared.keys.RowKey.{RowKey}
+use Rattle.outcome_judge.specs.declared.keys.Target.{Target}
+use Rattle.outcome_judge.specs.Targets.{wrote}
 use Rattle.outcome_judge.proofs.History.{first-none, first-some}
 use Rattle.timeline_laws.proofs.Tests.{or-false}
 use Rattle.outcome_counts.proofs.Cuts.{one-cut}
-use Rattle.outcome_judge.specs.Writers.{history_in, is_line_at, is_line_of, is_number_in, line_told, numbers_of, value_at}
+use Rattle.outcome_judge.specs.Writers.{history_in, is_line_at, is_line_of, is_number_in, line_told, numbers_at, value_at}
 use Rattle.outcome_judge.proofs.Committing.{reply-itself}
 use Rattle.outcome_judge.proofs.Numbering.{history-at}
 use Rattle.outcome_judge.proofs.Tops.{any-filter, under}
@@ -127,54 +126,54 @@ any-range test number first (suc n) = ap (λ (b : Bool). ((first == number) && t
         ap (λ (b : Bool). b && test number) same
 
 -- a number is kept for a place exactly where its commit wrote it
-pub number-in : (entries : List Entry) (place : Place) (number : ℕ)
-    → is_number_in (numbers_of entries place) number ≡ ((nat_le 1 number && nat_le number (commit_count entries)) && writes_place place (committed_writes entries (transactions_of entries) number))
-number-in entries place number =
-    let test = λ (n : ℕ). nat_lt 0 n && writes_place place (write_set_at (history_in entries) n) in
+pub number-in : (entries : List Entry) (of : Target) (number : ℕ)
+    → is_number_in (numbers_at entries of) number ≡ ((nat_le 1 number && nat_le number (commit_count entries)) && wrote of (committed_writes entries (transactions_of entries) number))
+number-in entries of number =
+    let test = λ (n : ℕ). nat_lt 0 n && wrote of (write_set_at (history_in entries) n) in
     let count = commit_count entries in
-    let wrote = committed_writes entries (transactions_of entries) in
+    let its = committed_writes entries (transactions_of entries) in
     any-filter (λ its. its == number) test (range_with_len 1 (length (history_in entries)))
-    ∙ ap (λ (n : ℕ). list_any (λ x. (x == number) && test x) (range_with_len 1 n)) (length-map-range_with_len wrote 1 count)
+    ∙ ap (λ (n : ℕ). list_any (λ x. (x == number) && test x) (range_with_len 1 n)) (length-map-range_with_len its 1 count)
     ∙ any-range test number 1 count
     ∙ ap (λ (b : Bool). (nat_le 1 number && b) && test number) (grind (arith, nat_tests))
-    ∙ under (nat_le 1 number && nat_le number count) (test number) (writes_place place (wrote number)) (λ within. told number (and_parts (nat_le 1 number) (nat_le number count) within))
+    ∙ under (nat_le 1 number && nat_le number count) (test number) (wrote of (its number)) (λ within. told number (and_parts (nat_le 1 number) (nat_le number count) within))
   where
     told : (n : ℕ) → (nat_le 1 n ≡ true) × (nat_le n (commit_count entries) ≡ true)
-        → (nat_lt 0 n && writes_place place (write_set_at (history_in entries) n)) ≡ writes_place place (committed_writes entries (transactions_of entries) n)
+        → (nat_lt 0 n && wrote of (write_set_at (history_in entries) n)) ≡ wrote of (committed_writes entries (transactions_of entries) n)
     told zero within = absurd (let l = within.0 in grind (arith, nat_tests, l))
     told (suc n) within =
         let next : suc n ≡ n + 1 = omega arith in
         let above : nat_lt 0 (suc n) ≡ true = grind (arith, nat_tests) in
         let inside : n < commit_count entries = (let h = within.1 in grind (arith, nat_tests, h)) in
-        ap (λ (b : Bool). b && writes_place place (write_set_at (history_in entries) (suc n))) above
-        ∙ ap (λ (m : ℕ). writes_place place (write_set_at (history_in entries) m)) next
-        ∙ ap (writes_place place) (history-at entries n inside)
-        ∙ ap (λ (m : ℕ). writes_place place (committed_writes entries (transactions_of entries) m)) (sym next)
+        ap (λ (b : Bool). b && wrote of (write_set_at (history_in entries) (suc n))) above
+        ∙ ap (λ (m : ℕ). wrote of (write_set_at (history_in entries) m)) next
+        ∙ ap (wrote of) (history-at entries n inside)
+        ∙ ap (λ (m : ℕ). wrote of (committed_writes entries (transactions_of entries) m)) (sym next)
 
 -- The number that is told of a place is that of which the reply is the line, if the commit wrote
 -- the place.
-pub value-is : (entries front : List Entry) (entry : Entry) (rest : List Entry) (place : ℕ) → entries ≡ front ++ entry ∷ rest → length front ≡ place → Rises entries → (of : RowKey)
+pub value-is : (entries front : List Entry) (entry : Entry) (rest : List Entry) (place : ℕ) → entries ≡ front ++ entry ∷ rest → length front ≡ place → Rises entries → (of : Target)
     → value_at entries of entry
-    ≡ option_map_or (λ number. if writes_place (place_in of) (committed_writes entries (transactions_of entries) number) then number else 0) (line_told entries (commit_count entries) place entry) 0
+    ≡ option_map_or (λ number. if wrote of (committed_writes entries (transactions_of entries) number) then number else 0) (line_told entries (commit_count entries) place entry) 0
 value-is entries front entry rest place whole at rises of = by (commit_in entry.reply.said)
   where
-    one : (number : ℕ) (a l w : Bool) → writes_place (place_in of) (committed_writes entries (transactions_of entries) number) ≡ w
+    one : (number : ℕ) (a l w : Bool) → wrote of (committed_writes entries (transactions_of entries) number) ≡ w
         → (if a && (l && w) then number else 0)
-        ≡ option_map_or (λ number. if writes_place (place_in of) (committed_writes entries (transactions_of entries) number) then number else 0) (if l && a then Some number else None) 0
+        ≡ option_map_or (λ number. if wrote of (committed_writes entries (transactions_of entries) number) then number else 0) (if l && a then Some number else None) 0
     one number true true w is = ap (λ (b : Bool). if b then number else 0) (sym is)
     one number true false w is = refl
     one number false true w is = refl
     one number false false w is = refl
 
-    by : (shown : Option ℕ) → option_map_or (λ number. if is_line_of entries number entry && is_number_in (numbers_of entries (place_in of)) number then number else 0) shown 0
-        ≡ option_map_or (λ number. if writes_place (place_in of) (committed_writes entries (transactions_of entries) number) then number else 0)
+    by : (shown : Option ℕ) → option_map_or (λ number. if is_line_of entries number entry && is_number_in (numbers_at entries of) number then number else 0) shown 0
+        ≡ option_map_or (λ number. if wrote of (committed_writes entries (transactions_of entries) number) then number else 0)
         (option_and_then (λ number. if is_line_at entries (commit_count entries) place number then Some number else None) shown) 0
     by None = refl
     by (Some number) =
-        ap (λ (b : Bool). if b && is_number_in (numbers_of entries (place_in of)) number then number else 0) (line-is entries front entry rest place whole at rises number)
-        ∙ ap (λ (b : Bool). if option_map_or (λ first. first == place) (first_of (commits_as number) entries) false && b then number else 0) (number-in entries (place_in of) number)
+        ap (λ (b : Bool). if b && is_number_in (numbers_at entries of) number then number else 0) (line-is entries front entry rest place whole at rises number)
+        ∙ ap (λ (b : Bool). if option_map_or (λ first. first == place) (first_of (commits_as number) entries) false && b then number else 0) (number-in entries of number)
         ∙ one number (option_map_or (λ first. first == place) (first_of (commits_as number) entries) false) (nat_le 1 number && nat_le number (commit_count entries))
-        (writes_place (place_in of) (committed_writes entries (transactions_of entries) number)) refl
+        (wrote of (committed_writes entries (transactions_of entries) number)) refl
 
 -- the mark of a number that is told is that of its value
 pub line-marks : (w : Bool) (number value place start : ℕ) (old : List Peak) → 1 ≤ number → value ≡ (if w then number else 0)

@@ -12,7 +12,7 @@ use Rattle.outcome_spec.specs.Entries.{Entry}
 use Rattle.outcome_spec.specs.Runs.{Run, Span, run_of, transaction_of, write_of}
 use Rattle.timeline_laws.proofs.Tests.{and-true}
 use Rattle.outcome_judge.specs.Conflicts.{height_rule, heights_hold, is_highest, is_named, number_rule, numbers_hold, session_rule, sessions_hold, shown_in}
-use Rattle.outcome_judge.specs.Writers.{transaction_told}
+use Rattle.outcome_judge.specs.Writers.{numbers_of, transaction_told}
 use Rattle.outcome_judge.specs.HistoryKept.{place_in}
 use Rattle.outcome_judge.specs.declared.commits.Transaction.{Transaction}
 use Rattle.outcome_judge.specs.declared.conflicts.Shown.{Shown}
@@ -54,7 +54,7 @@ rule-parts tables entries t place entry said.Memory = refl
 rule-parts tables entries t place entry (said.ConflictSession session) = let n = names_session (run_of tables entries) t place entry session in and-true (n && true) ∙ and-true n
 rule-parts tables entries t place entry (said.ConflictCommit number) =
     let run = run_of tables entries in
-    last-first (passes_no_session run t place entry) (is_highest entries place entry number) (is_named run t place entry number)
+    last-first (passes_no_session run t place entry) (is_highest entries (numbers_of entries place) entry number) (is_named run t (numbers_of entries place) entry number)
     ∙ ap (λ (b : Bool). b && passes_no_session run t place entry) (names-commit tables entries t place entry number)
 rule-parts tables entries t place entry said.Accepted =
     let run = run_of tables entries in

@@ -8,8 +8,9 @@ use Rattle.outcome_spec.specs.Conflicts.{is_committed_not_after, is_first_update
 use Rattle.outcome_spec.specs.Conflicts.{passes_no_commit, passes_no_session}
 use Rattle.outcome_spec.specs.Entries.{Entry, before}
 use Rattle.outcome_spec.specs.Runs.{Run, Span, transaction_of, write_of}
-use Rattle.mark_index.specs.Marks.{highest}
-use Rattle.outcome_judge.specs.Writers.{is_number_in, number_told, numbers_of}
+use Rattle.mark_index.specs.Marks.{count_below, highest}
+use Rattle.outcome_judge.specs.Writers.{count_up_to, is_number_in, number_told, numbers_of}
+use Rattle.outcome_judge.specs.declared.commits.Transaction.{Transaction}
 use Rattle.outcome_judge.specs.declared.conflicts.Shown.{Shown}
 use Rattle.outcome_judge.specs.declared.conflicts.Shown.TheVariants as shown
 
@@ -21,17 +22,21 @@ shown_in (said.ConflictCommit number) = shown.Commit number
 shown_in said.Accepted = shown.Accepted
 shown_in _ = shown.Other
 
--- the commit number is above the snapshot, its write set has the place, and its line isn't after
--- the reply
-abbrev pub is_named : Run → Span → Place → Entry → ℕ → Bool
-is_named run t place entry number =
-    (nat_lt t.snapshot number && is_number_in (numbers_of run.entries place) number)
+-- the commit number is above the snapshot, one of these numbers, and its line isn't after the reply
+abbrev pub is_named : Run → Span → List ℕ → Entry → ℕ → Bool
+is_named run t numbers entry number =
+    (nat_lt t.snapshot number && is_number_in numbers number)
     && is_committed_not_after run entry number
 
--- none above it that wrote the place has its line before the reply
-abbrev pub is_highest : List Entry → Place → Entry → ℕ → Bool
-is_highest entries place entry number = nat_le
-    (highest (number_told entries (numbers_of entries place)) (before entries entry)) number
+-- none of these numbers that is above it has its line before the reply
+abbrev pub is_highest : List Entry → List ℕ → Entry → ℕ → Bool
+is_highest entries numbers entry number = nat_le
+    (highest (number_told entries numbers) (before entries entry)) number
+
+-- none of these numbers is above the transaction's snapshot and below its own, if it commits
+abbrev pub is_first : Transaction → List ℕ → Bool
+is_first t numbers = option_map_or
+    (λ number. nat_le (count_below number numbers) (count_up_to t.snapshot numbers)) t.committed true
 
 -- what it asks of sessions, of the numbers of commits, and of how high they are
 abbrev pub session_rule : Run → Span → Place → Entry → Shown → Bool
@@ -44,14 +49,14 @@ session_rule run t place entry shown.Other = passes_no_session run t place entry
 abbrev pub number_rule : Run → Span → Place → Entry → Shown → Bool
 number_rule run t place entry shown.Refused = true
 number_rule run t place entry (shown.Session session) = true
-number_rule run t place entry (shown.Commit number) = is_named run t place entry number
+number_rule run t place entry (shown.Commit number) = is_named run t (numbers_of run.entries place) entry number
 number_rule run t place entry shown.Accepted = is_first_updater run t place
 number_rule run t place entry shown.Other = true
 
 abbrev pub height_rule : Run → Span → Place → Entry → Shown → Bool
 height_rule run t place entry shown.Refused = true
 height_rule run t place entry (shown.Session session) = true
-height_rule run t place entry (shown.Commit number) = is_highest run.entries place entry number
+height_rule run t place entry (shown.Commit number) = is_highest run.entries (numbers_of run.entries place) entry number
 height_rule run t place entry shown.Accepted = passes_no_commit run t place entry
 height_rule run t place entry shown.Other = passes_no_commit run t place entry
 

@@ -1,4 +1,5 @@
 pub mod Spots
+pub mod Targets
 pub mod Timed
 pub mod HistoryKept
 pub mod Own
@@ -13,6 +14,9 @@ pub mod Written
 pub mod Rivals
 pub mod Writers
 pub mod Conflicts
+pub mod Stale
+pub mod Threads
 pub mod Kept
 pub mod Judged
+pub mod Asked
 pub mod Verdicts

@@ -4,21 +4,22 @@ use Rattle.std.specs.Prelude.{length, count_by, slice_get, Option, None, Some, o
 use Rattle.std.specs.Prelude.{if◌then◌else◌}
 use Rattle.std.specs.BTreeMap.{get}
 use Rattle.std.specs.List.{filter, list_all, list_any, range_with_len}
-use Rattle.std.specs.List.Sorted.{IsNonDecreasing}
+use Rattle.std.specs.List.Sorted.{IsNonDecreasing, IsNonDecreasingBy}
 use Rattle.std.specs.Option.{option_map_or}
-use Rattle.std.specs.Ordering.{nat_cmp, is_eq}
+use Rattle.std.specs.Ordering.{nat_cmp}
 use Rattle.isolation_spec.specs.Contents.{History}
-use Rattle.isolation_spec.specs.Machine.{later_writers, write_set_at, writes_place}
+use Rattle.isolation_spec.specs.Machine.{later_commits, later_writers, write_set_at}
 use Rattle.isolation_spec.specs.declared.place.Place.{Place}
 use Rattle.outcome_spec.specs.Entries.{Entry, commit_in, is_reply}
 use Rattle.outcome_spec.specs.Runs.{Span, commit_count, commit_line, commits_as, committed_writes}
 use Rattle.outcome_spec.specs.Runs.{ending_of, transactions_of}
-use Rattle.mark_index.specs.Lists.{marks_at}
-use Rattle.mark_index.specs.Marks.{ArePeaks}
+use Rattle.mark_index.specs.Lists.{marks_at, with_mark}
+use Rattle.mark_index.specs.Marks.{ArePeaks, next_peak}
 use Rattle.mark_index.specs.declared.MarkIndex.{MarkIndex}
 use Rattle.mark_index.specs.declared.marks.Peak.{Peak}
 use Rattle.outcome_counts.specs.BlockMarks.{starts_in}
-use Rattle.outcome_judge.specs.HistoryKept.{key_cmp, place_in}
+use Rattle.outcome_judge.specs.HistoryKept.{place_in}
+use Rattle.outcome_judge.specs.Targets.{covers, target_cmp, wrote}
 use Rattle.outcome_judge.specs.declared.commits.Transaction.{Transaction}
 use Rattle.outcome_judge.specs.declared.commits.Heights.{Heights}
 use Rattle.outcome_judge.specs.declared.commits.Numbers.{Numbers}
@@ -26,7 +27,7 @@ use Rattle.outcome_judge.specs.Commits.{first_of}
 use Rattle.outcome_judge.specs.Own.{AreChanges}
 use Rattle.outcome_judge.specs.Seen.{IsOutput}
 use Rattle.outcome_judge.specs.declared.changes.Change.{Change}
-use Rattle.outcome_judge.specs.declared.keys.RowKey.{RowKey}
+use Rattle.outcome_judge.specs.declared.keys.Target.{Target}
 use Rattle.outcome_judge.specs.declared.writers.Written.{Written}
 
 -- what the commits of the replies wrote, by their numbers
@@ -37,6 +38,10 @@ history_in entries = map (committed_writes entries (transactions_of entries))
 -- the numbers of the commits that wrote the place, rising
 abbrev pub numbers_of : List Entry → Place → List ℕ
 numbers_of entries place = later_writers (history_in entries) 0 place
+
+-- those of the commits that wrote a row, or into a table
+abbrev pub numbers_at : List Entry → Target → List ℕ
+numbers_at entries of = later_commits (history_in entries) 0 (wrote of)
 
 -- the reply is the line of the commit number
 abbrev pub is_line_of : List Entry → ℕ → Entry → Bool
@@ -57,17 +62,18 @@ number_told entries numbers entry =
 abbrev pub count_up_to : ℕ → List ℕ → ℕ
 count_up_to bound numbers = count_by (λ number. nat_le number bound) numbers
 
--- What is kept are the numbers of the commits that wrote each place, and the line of each number.
+-- What is kept are the numbers of the commits that wrote each row and table, and the line of each
+-- number.
 pub record AreNumbered (entries : List Entry) (kept : Numbers) : Type 0 where
-  pub rise : (of : RowKey) → IsNonDecreasing (marks_at key_cmp kept.numbers of)
-  pub numbers : (of : RowKey) → marks_at key_cmp kept.numbers of ≡ numbers_of entries (place_in of)
+  pub rise : (of : Target) → IsNonDecreasing (marks_at target_cmp kept.numbers of)
+  pub numbers : (of : Target) → marks_at target_cmp kept.numbers of ≡ numbers_at entries of
   pub lines : (number : ℕ) → option_and_then (slice_get entries) (get nat_cmp kept.lines number)
       ≡ commit_line entries number
 
 -- What is kept is how high they are.
 pub record AreHeights (entries : List Entry) (heights : Heights) : Type 0 where
-  pub peaks : (of : RowKey) → ArePeaks (number_told entries (numbers_of entries (place_in of)))
-      (starts_in entries) entries (length entries) (marks_at key_cmp heights.peaks of)
+  pub peaks : (of : Target) → ArePeaks (number_told entries (numbers_at entries of))
+      (starts_in entries) entries (length entries) (marks_at target_cmp heights.peaks of)
 
 -- of a transaction its snapshot, and the number with which it commits, if it does
 abbrev pub transaction_told : Span → Transaction
@@ -76,23 +82,23 @@ transaction_told t = record {
   committed = option_and_then (λ ending. commit_in ending.reply.said) (ending_of t);
 }
 
--- the place is changed up to a time
-abbrev pub is_written : RowKey → ℕ → List Change → Bool
+-- a place of it is changed up to a time
+abbrev pub is_written : Target → ℕ → List Change → Bool
 is_written of bound own = list_any
-    (λ change. nat_le change.left.time bound && is_eq (key_cmp change.of of)) own
+    (λ change. nat_le change.left.time bound && covers of (place_in change.of)) own
 
--- the first so many of the numbers of the commits that wrote the place
-abbrev pub numbers_up_to : ℕ → List Entry → Place → List ℕ
-numbers_up_to count entries place =
+-- the first so many of the numbers of the commits that wrote a place of it
+abbrev pub numbers_up_to : ℕ → List Entry → Target → List ℕ
+numbers_up_to count entries of =
     filter (λ number. nat_lt 0 number
-    && writes_place place (write_set_at (history_in entries) number)) (range_with_len 1 count)
+    && wrote of (write_set_at (history_in entries) number)) (range_with_len 1 count)
 
 -- The numbers are those of the first so many commits.
-pub record AreNumbers (entries : List Entry) (count : ℕ) (kept : MarkIndex RowKey ℕ) : Type 0 where
-  pub numbers : (of : RowKey) → marks_at key_cmp kept of ≡ numbers_up_to count entries (place_in of)
-  pub rise : (of : RowKey) → IsNonDecreasing (marks_at key_cmp kept of)
-  pub below : (of : RowKey) → list_all (λ number. nat_lt number (count + 1))
-      (marks_at key_cmp kept of) ≡ true
+pub record AreNumbers (entries : List Entry) (count : ℕ) (kept : MarkIndex Target ℕ) : Type 0 where
+  pub numbers : (of : Target) → marks_at target_cmp kept of ≡ numbers_up_to count entries of
+  pub rise : (of : Target) → IsNonDecreasing (marks_at target_cmp kept of)
+  pub below : (of : Target) → list_all (λ number. nat_lt number (count + 1))
+      (marks_at target_cmp kept of) ≡ true
 
 -- the reply at a place is the line of a number among the first so many
 abbrev pub is_line_at : List Entry → ℕ → ℕ → ℕ → Bool
@@ -106,14 +112,23 @@ line_told entries count place entry = option_and_then
     (λ number. if is_line_at entries count place number then Some number else None)
     (commit_in entry.reply.said)
 
--- the number that is told of a key's place by the reply at a place
-abbrev pub value_at : List Entry → RowKey → Entry → ℕ
-value_at entries of entry = number_told entries (numbers_of entries (place_in of)) entry
+-- the number that is told of a row or table by the reply at a place
+abbrev pub value_at : List Entry → Target → Entry → ℕ
+value_at entries of entry = number_told entries (numbers_at entries of) entry
 
 -- The peaks are those of the first so many replies.
-abbrev pub ArePeaksUpTo : List Entry → ℕ → MarkIndex RowKey Peak → Type 0
-ArePeaksUpTo entries taken peaks = (of : RowKey)
-    → ArePeaks (value_at entries of) (starts_in entries) entries taken (marks_at key_cmp peaks of)
+abbrev pub ArePeaksUpTo : List Entry → ℕ → MarkIndex Target Peak → Type 0
+ArePeaksUpTo entries taken peaks = (of : Target)
+    → ArePeaks (value_at entries of) (starts_in entries) entries taken (marks_at target_cmp peaks of)
+
+-- What is kept are some marks, with one more at a place behind those of some rows and tables.
+pub record AreMarked (place start number : ℕ) (peaks : MarkIndex Target Peak) : Type 0 where
+  pub base : Target → List Peak
+  pub put : Target → Bool
+  pub rise : (of : Target) → IsNonDecreasingBy (λ peak. peak.place) (base of)
+  pub below : (of : Target) → list_all (λ peak. nat_lt peak.place place) (base of) ≡ true
+  pub marks : (of : Target) → marks_at target_cmp peaks of
+      ≡ with_mark (put of) (next_peak (base of) place start number) (base of)
 
 -- By what the writers are built is what the replies tell.
 pub record IsWritten (entries : List Entry) (written : Written) : Type 0 where

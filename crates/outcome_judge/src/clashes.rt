@@ -1,22 +1,79 @@
-//! Who else writes what a reply's transaction writes.
-ghost use Rattle.std.specs.Prelude.{◌≤◌, List, length};
+//! Who else writes what a reply's transaction writes or reads.
+ghost use Rattle.std.specs.Prelude.{◌≡◌, ◌<◌, ◌≤◌, List, length, option_map};
 ghost use Rattle.cell_model.specs.declared.table.TableDecl.{TableDecl};
 ghost use Rattle.order_laws.specs.Opened.{OpensOutside};
 ghost use Rattle.order_laws.specs.Places.{Rises};
-ghost use Rattle.outcome_judge.specs.Conflicts.{heights_hold, numbers_hold, sessions_hold};
+ghost use Rattle.outcome_judge.specs.Conflicts.{sessions_hold};
 ghost use Rattle.outcome_judge.specs.Rivals.{AreRivals};
-ghost use Rattle.outcome_judge.specs.Writers.{AreHeights, AreNumbered};
+ghost use Rattle.outcome_judge.specs.Writers.{AreHeights, AreNumbered, transaction_told};
+ghost use Rattle.outcome_counts.specs.Asked.{IsAsked, IsJudgedBy, asked_at};
 ghost use Rattle.outcome_counts.specs.Written.{AreSpans};
-ghost use Rattle.outcome_spec.specs.Runs.{run_of};
+ghost use Rattle.outcome_spec.specs.Runs.{run_of, transaction_of};
 ghost use Rattle.output_read.specs.Kept.{entries_of};
-ghost use Rattle.outcome_judge.specs.Judged.{EndsAt};
+ghost use Rattle.output_read.specs.declared.kept.KeptReply.{KeptReply as Kept};
+ghost use Rattle.outcome_judge.specs.Judged.{EndsAt, heights_stand, numbers_stand};
 
-use crate::commits::{Heights, Numbers};
+use crate::commits::{Heights, Numbers, Transaction};
 use crate::rivals::Rivals;
+use crate::stale::both_hold;
 use crate::transactions::transaction_at;
 use outcome_counts::spans::Spans;
-use outcome_counts::stretch_behind;
+use outcome_counts::{Stretch, stretch_behind};
 use output_read::KeptReply;
+
+impl Heights {
+    /// Whether the reply keeps what is asked of how high commits are.
+    fn all_stand(
+        &self,
+        spans: &Spans,
+        replies: &[KeptReply<'_>],
+        at: usize,
+        stretch: &Stretch,
+        transaction: Option<Transaction>,
+    ) -> bool
+        requires heights { AreHeights (entries_of replies.now) self.now }
+        requires spans { AreSpans (entries_of replies.now) (length replies.now) spans.now }
+        requires asked { IsAsked replies.now at stretch.now }
+        requires own { (none : Kept) (tables : List TableDecl)
+            → option_map transaction_told
+            (transaction_of (run_of tables (entries_of replies.now))
+            (asked_at replies.now at none)) ≡ transaction }
+        ensures { (tables : List TableDecl)
+            → IsJudgedBy (heights_stand (run_of tables (entries_of replies.now))) replies.now at
+            result }
+    {
+        let writes = self.heights_hold(replies, at, stretch, transaction);
+        let reads = self.tops_stand(spans, replies, at, stretch);
+        both_hold(writes, reads)
+    }
+}
+
+impl Numbers {
+    /// Whether the reply keeps what is asked of the numbers of commits.
+    fn all_stand(
+        &self,
+        spans: &Spans,
+        replies: &[KeptReply<'_>],
+        at: usize,
+        transaction: Option<Transaction>,
+    ) -> bool
+        requires numbers { AreNumbered (entries_of replies.now) self.now }
+        requires spans { AreSpans (entries_of replies.now) (length replies.now) spans.now }
+        requires outside { OpensOutside (entries_of replies.now) }
+        requires inside { at < length replies.now }
+        requires own { (none : Kept) (tables : List TableDecl)
+            → option_map transaction_told
+            (transaction_of (run_of tables (entries_of replies.now))
+            (asked_at replies.now at none)) ≡ transaction }
+        ensures { (tables : List TableDecl)
+            → IsJudgedBy (numbers_stand (run_of tables (entries_of replies.now))) replies.now at
+            result }
+    {
+        let writes = self.numbers_hold(replies, at, transaction);
+        let reads = self.reads_stand(spans, replies, at);
+        both_hold(writes, reads)
+    }
+}
 
 /// Where the first reply stands, in front of a place, that passes over a session or names a false
 /// one, or else that place.
@@ -46,8 +103,8 @@ pub(crate) fn sessions_end(
     until
 }
 
-/// Where the first reply stands, in front of a place, that passes over a higher commit, or else
-/// that place.
+/// Where the first reply stands, in front of a place, that passes over a higher commit of what it
+/// writes or names as read, or else that place.
 pub(crate) fn heights_end(
     heights: &Heights,
     spans: &Spans,
@@ -60,13 +117,13 @@ pub(crate) fn heights_end(
     requires outside { OpensOutside (entries_of replies.now) }
     requires within { until ≤ length replies.now }
     ensures { (tables : List TableDecl)
-        → EndsAt (heights_hold (run_of tables (entries_of replies.now))) replies.now until result }
+        → EndsAt (heights_stand (run_of tables (entries_of replies.now))) replies.now until result }
 {
     let mut known = None;
     for at in 0..until {
         let stretch = stretch_behind(replies, at, known);
         let transaction = transaction_at(spans, replies, at);
-        if !heights.heights_hold(replies, at, &stretch, transaction) {
+        if !heights.all_stand(spans, replies, at, &stretch, transaction) {
             return at;
         }
         known = Some(stretch);
@@ -74,8 +131,8 @@ pub(crate) fn heights_end(
     until
 }
 
-/// Where the first reply stands, in front of a place, that names a false commit or writes after one
-/// that it does not see, or else that place.
+/// Where the first reply stands, in front of a place, that names a false commit, or writes or
+/// commits after one that it does not see, or else that place.
 pub(crate) fn numbers_end(
     numbers: &Numbers,
     spans: &Spans,
@@ -87,11 +144,11 @@ pub(crate) fn numbers_end(
     requires outside { OpensOutside (entries_of replies.now) }
     requires within { until ≤ length replies.now }
     ensures { (tables : List TableDecl)
-        → EndsAt (numbers_hold (run_of tables (entries_of replies.now))) replies.now until result }
+        → EndsAt (numbers_stand (run_of tables (entries_of replies.now))) replies.now until result }
 {
     for at in 0..until {
         let transaction = transaction_at(spans, replies, at);
-        if !numbers.numbers_hold(replies, at, transaction) {
+        if !numbers.all_stand(spans, replies, at, transaction) {
             return at;
         }
     }

@@ -15,7 +15,7 @@ ghost use Rattle.outcome_judge.specs.Written.{place_written};
 ghost use Rattle.outcome_judge.specs.HistoryKept.{place_in};
 
 use crate::commits::{Heights, Numbers, Transaction};
-use crate::keys::RowKey;
+use crate::keys::{RowKey, row_target};
 use crate::rivals::Rivals;
 use crate::written::place_written;
 use outcome_counts::Stretch;
@@ -127,7 +127,9 @@ impl Numbers {
         match shown_in(&replies[at]) {
             Shown::Refused => true,
             Shown::Session(_) => true,
-            Shown::Commit(number) => self.is_named(replies, at, of, t.snapshot, number),
+            Shown::Commit(number) => {
+                self.is_named(replies, at, row_target(of), t.snapshot, number)
+            }
             Shown::Accepted => self.is_first_updater(replies, of, t),
             Shown::Other => true,
         }
@@ -182,7 +184,9 @@ impl Heights {
         match shown_in(&replies[at]) {
             Shown::Refused => true,
             Shown::Session(_) => true,
-            Shown::Commit(number) => self.is_highest(replies, at, stretch, of, number),
+            Shown::Commit(number) => {
+                self.is_highest(replies, at, stretch, row_target(of), number)
+            }
             Shown::Accepted => self.passes_no_commit(replies, at, stretch, of, t.snapshot),
             Shown::Other => self.passes_no_commit(replies, at, stretch, of, t.snapshot),
         }

@@ -3,6 +3,7 @@ ghost use Rattle.std.specs.Prelude.{◌≡◌, ◌<◌, ◌≤◌, ◌^◌, IfOk
 ghost use Rattle.cell_model.specs.declared.table.TableDecl.{TableDecl as TableValue};
 ghost use Rattle.order_laws.specs.Opened.{OpensOutside};
 ghost use Rattle.order_laws.specs.Places.{Rises};
+ghost use Rattle.outcome_judge.specs.Asked.{are_judged};
 ghost use Rattle.outcome_judge.specs.Conflicts.{sessions_hold};
 ghost use Rattle.outcome_judge.specs.Writers.{IsWritten};
 ghost use Rattle.outcome_judge.specs.Commits.{AreCommits};
@@ -97,6 +98,7 @@ fn seen_end<'a>(
     requires rises { Rises (entries_of replies.now) }
     requires outside { OpensOutside (entries_of replies.now) }
     requires told { are_told replies.now ≡ true }
+    requires judged { are_judged (entries_of replies.now) ≡ true }
     requires within { until ≤ length replies.now }
     ensures { IfOk result (EndsAt (views_hold (run_of tables.now (entries_of replies.now)))
         replies.now until) }
@@ -132,6 +134,7 @@ fn written_end<'a>(
     requires rises { Rises (entries_of replies.now) }
     requires outside { OpensOutside (entries_of replies.now) }
     requires told { are_told replies.now ≡ true }
+    requires judged { are_judged (entries_of replies.now) ≡ true }
     requires count { count ≡ commit_count (entries_of replies.now) }
     requires within { until ≤ length replies.now }
     ensures { IfOk result (EndsAt
@@ -163,6 +166,7 @@ fn sound_end(
     requires rises { Rises (entries_of replies.now) }
     requires outside { OpensOutside (entries_of replies.now) }
     requires told { are_told replies.now ≡ true }
+    requires judged { are_judged (entries_of replies.now) ≡ true }
     ensures { IfOk result (EndsAt (is_sound (run_of tables.now (entries_of replies.now)))
         replies.now (length replies.now)) }
 {
@@ -186,6 +190,7 @@ pub(crate) fn unsound_line(
     requires rises { Rises (entries_of replies.now) }
     requires outside { OpensOutside (entries_of replies.now) }
     requires told { are_told replies.now ≡ true }
+    requires judged { are_judged (entries_of replies.now) ≡ true }
     ensures { IfOk result (λ line. line
         ≡ unsound_line (run_of tables.now (entries_of replies.now))) }
 {

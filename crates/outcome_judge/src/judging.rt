@@ -10,6 +10,7 @@ ghost use Rattle.outcome_spec.specs.Answers.{write_holds, writes_hold};
 ghost use Rattle.outcome_spec.specs.Runs.{run_of};
 ghost use Rattle.output_read.specs.Kept.{are_told, entries_of, entry_of, is_told};
 ghost use Rattle.output_read.specs.declared.kept.KeptReply.{KeptReply as Kept};
+ghost use Rattle.outcome_judge.specs.Asked.{are_judged, is_judged};
 ghost use Rattle.outcome_judge.specs.ReadsJudged.{are_found, as_wanted, is_above, is_met, read_by};
 ghost use Rattle.outcome_judge.specs.HistoryKept.{place_in};
 ghost use Rattle.outcome_judge.specs.Seen.{AreSights, IsOutput, seen_up_to};
@@ -87,7 +88,8 @@ pub(crate) enum Read<'a> {
 
 /// What the reply says of what is seen.
 fn read_told<'a>(reply: &KeptReply<'a>) -> Read<'a>
-    requires { is_told reply.now.told ≡ true }
+    requires told { is_told reply.now.told ≡ true }
+    requires judged { is_judged (entry_of reply.now).command ≡ true }
     ensures { (seen : Seen) → read_holds seen (entry_of reply.now).command
         (entry_of reply.now).reply.said ≡ read_by seen result }
 {
@@ -291,6 +293,7 @@ impl<'a> Sights<'a> {
             self.now }
         requires inside { at < length replies.now }
         requires told { are_told replies.now ≡ true }
+        requires judged { are_judged (entries_of replies.now) ≡ true }
         ensures { (none : Kept) → IfOk result (λ answer. answer
             ≡ read_holds (seen_up_to openings.now (entries_of replies.now) (length replies.now)
             opening at) (asked_at replies.now at none).command
@@ -323,6 +326,7 @@ impl<'a> Sights<'a> {
             self.now }
         requires inside { at < length replies.now }
         requires told { are_told replies.now ≡ true }
+        requires judged { are_judged (entries_of replies.now) ≡ true }
         ensures { (tables : List Table)
             → IfOk result (λ answer. IsJudgedBy
             (reads_hold (run_of tables (entries_of replies.now))) replies.now at answer) }

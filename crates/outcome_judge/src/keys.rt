@@ -1,6 +1,8 @@
 //! By what writes are kept.
 ghost use Rattle.std.specs.Prelude.{◌≡◌};
+ghost use Rattle.outcome_judge.specs.HistoryKept.{place_in};
 ghost use Rattle.outcome_judge.specs.Spots.{spot_at};
+ghost use Rattle.outcome_judge.specs.Targets.{row_target, table_target};
 
 /// The key of a row in a table. A key of the text is as wide as a cell's number.
 #[derive(Clone, Copy, Debug, PartialEq, Eq, PartialOrd, Ord)]
@@ -34,4 +36,34 @@ pub(crate) fn spot_at(owner: usize, of: RowKey) -> Spot
 pub struct Shelf {
     pub owner: usize,
     pub table: u32,
+}
+
+/// A row, or a whole table, whose key is 0: what the numbers of commits are kept by.
+#[derive(Clone, Copy, Debug, PartialEq, Eq, PartialOrd, Ord)]
+pub struct Target {
+    pub table: u32,
+    pub whole: bool,
+    pub key: i128,
+}
+
+/// The row as one.
+pub(crate) fn row_target(of: RowKey) -> Target
+    ensures { result ≡ row_target (place_in of) }
+{
+    Target {
+        table: of.table,
+        whole: false,
+        key: of.key,
+    }
+}
+
+/// The whole table as one.
+pub(crate) fn table_target(table: u32) -> Target
+    ensures { result ≡ table_target table }
+{
+    Target {
+        table,
+        whole: true,
+        key: 0,
+    }
 }

@@ -2,6 +2,7 @@
 ghost use Rattle.std.specs.Prelude.{◌≡◌, ◌<◌, ◌≤◌, IfOk, List, length, true};
 ghost use Rattle.cell_model.specs.declared.table.TableDecl.{TableDecl};
 ghost use Rattle.outcome_counts.specs.Asked.{IsJudgedBy};
+ghost use Rattle.outcome_judge.specs.Asked.{are_judged};
 ghost use Rattle.outcome_judge.specs.Exports.{AreExports};
 ghost use Rattle.outcome_judge.specs.Seen.{AreSights, IsOutput};
 ghost use Rattle.outcome_spec.specs.Runs.{run_of};
@@ -53,6 +54,7 @@ fn accesses_hold<'a>(
         sights.now }
     requires inside { at < length replies.now }
     requires told { are_told replies.now ≡ true }
+    requires judged { are_judged (entries_of replies.now) ≡ true }
     ensures { (tables : List TableDecl)
         → IfOk result (λ answer. IsJudgedBy (accesses_hold (run_of tables (entries_of replies.now)))
         replies.now at answer) }
@@ -77,6 +79,7 @@ pub(crate) fn accesses_end<'a>(
     requires sights { AreSights openings.now (entries_of replies.now) (length replies.now)
         sights.now }
     requires told { are_told replies.now ≡ true }
+    requires judged { are_judged (entries_of replies.now) ≡ true }
     requires within { until ≤ length replies.now }
     ensures { (tables : List TableDecl)
         → IfOk result (EndsAt (accesses_hold (run_of tables (entries_of replies.now))) replies.now

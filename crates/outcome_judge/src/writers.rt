@@ -1,12 +1,12 @@
 //! What the commits of an output wrote, by place: their numbers, and how high these are up to each
 //! place of the output.
-ghost use Rattle.std.specs.Prelude.{◌≡◌, ◌==◌, ◌&&◌, ◌<◌, false, not, true, IfOk, OnOk, length};
+ghost use Rattle.std.specs.Prelude.{◌≡◌, ◌==◌, ◌&&◌, ◌||◌, ◌<◌, ℕ, Bool, false, not, true, IfOk};
+ghost use Rattle.std.specs.Prelude.{List, OnOk, length};
 ghost use Rattle.std.specs.Prelude.{nat_lt};
 ghost use Rattle.std.specs.List.{list_all};
 ghost use Rattle.std.specs.List.Sorted.{IsNonDecreasingBy};
 ghost use Rattle.std.specs.Option.{option_map_or};
 ghost use Rattle.std.specs.Ordering.{is_eq};
-ghost use Rattle.isolation_spec.specs.Machine.{writes_place};
 ghost use Rattle.mark_index.specs.Lists.{is_last, marks_at, with_mark};
 ghost use Rattle.mark_index.specs.Marks.{next_peak};
 ghost use Rattle.output_read.specs.Kept.{entries_of};
@@ -14,16 +14,17 @@ ghost use Rattle.output_read.specs.declared.kept.KeptReply.{KeptReply as Kept};
 ghost use Rattle.outcome_counts.specs.Asked.{asked_at};
 ghost use Rattle.outcome_counts.specs.BlockMarks.{starts_in};
 ghost use Rattle.outcome_spec.specs.Runs.{commit_count, committed_writes, transactions_of};
-ghost use Rattle.outcome_judge.specs.HistoryKept.{key_cmp, place_in};
-ghost use Rattle.outcome_judge.specs.declared.keys.RowKey.{RowKey as Where};
+ghost use Rattle.outcome_judge.specs.Targets.{covers, target_cmp, wrote};
+ghost use Rattle.outcome_judge.specs.HistoryKept.{place_in};
+ghost use Rattle.outcome_judge.specs.declared.keys.Target.{Target as What};
 ghost use Rattle.outcome_judge.specs.Writers.{AreHeights, AreNumbered, AreNumbers};
-ghost use Rattle.outcome_judge.specs.Writers.{ArePeaksUpTo, IsWritten, is_line_at, is_written};
+ghost use Rattle.outcome_judge.specs.Writers.{AreMarked, ArePeaksUpTo, IsWritten, is_line_at, is_written};
 ghost use Rattle.outcome_judge.specs.Writers.{line_told, value_at};
 
 use crate::changes::{Change, Changes, opening_at};
 use crate::commits::{Heights, Numbers};
 use crate::committed::CommitPlaces;
-use crate::keys::RowKey;
+use crate::keys::{RowKey, Target, row_target, table_target};
 use crate::lines::lines_of;
 use mark_index::MarkIndex;
 use mark_index::marks::Peak;
@@ -31,22 +32,40 @@ use outcome_counts::{commit_told, stretch_about};
 use output_read::KeptReply;
 use std::alloc::{AllocError, Global};
 
-/// Puts a number behind those of each place that is changed up to a time.
+/// Puts a number behind those of a row and of its table.
+fn note_number(
+    alloc: Global,
+    numbers: &mut MarkIndex<Target, u64>,
+    of: RowKey,
+    number: u64,
+) -> Result<(), AllocError>
+    ensures { (base : What → List ℕ) (was : What → Bool)
+        → ((what : What) → list_all (λ its. nat_lt its number) (base what) ≡ true)
+        → ((what : What) → marks_at target_cmp numbers.old what
+        ≡ with_mark (was what) number (base what))
+        → OnOk result ((what : What) → marks_at target_cmp numbers.new what
+        ≡ with_mark (was what || covers what (place_in of)) number (base what)) }
+{
+    numbers.push_number(alloc, row_target(of), number)?;
+    numbers.push_number(alloc, table_target(of.table), number)
+}
+
+/// Puts a number behind those of each row and table that is changed up to a time.
 fn note_numbers(
     alloc: Global,
-    numbers: &mut MarkIndex<RowKey, u64>,
+    numbers: &mut MarkIndex<Target, u64>,
     own: &[Change<'_>],
     bound: u64,
     number: u64,
 ) -> Result<(), AllocError>
-    requires { (of : Where) → list_all (λ its. nat_lt its number) (marks_at key_cmp numbers.old of)
+    requires { (of : What) → list_all (λ its. nat_lt its number) (marks_at target_cmp numbers.old of)
         ≡ true }
-    ensures { OnOk result ((of : Where) → marks_at key_cmp numbers.new of
-        ≡ with_mark (is_written of bound own.now) number (marks_at key_cmp numbers.old of)) }
+    ensures { OnOk result ((of : What) → marks_at target_cmp numbers.new of
+        ≡ with_mark (is_written of bound own.now) number (marks_at target_cmp numbers.old of)) }
 {
     for change in own.iter() {
         if change.left.time <= bound {
-            numbers.push_number(alloc, change.of, number)?;
+            note_number(alloc, numbers, change.of, number)?;
         }
     }
     Ok(())
@@ -56,44 +75,63 @@ fn note_numbers(
 /// begins at a start.
 fn note_peak(
     alloc: Global,
-    peaks: &mut MarkIndex<RowKey, Peak>,
+    peaks: &mut MarkIndex<Target, Peak>,
+    of: Target,
+    place: usize,
+    start: usize,
+    number: u64,
+) -> Result<(), AllocError>
+    requires { (other : What) → IsNonDecreasingBy (λ peak. peak.place)
+        (marks_at target_cmp peaks.old other) }
+    ensures { OnOk result ((other : What) → marks_at target_cmp peaks.new other
+        ≡ with_mark (is_eq (target_cmp of other)
+        && not (is_last (λ its. its.place == place) (marks_at target_cmp peaks.old of)))
+        (next_peak (marks_at target_cmp peaks.old of) place start number)
+        (marks_at target_cmp peaks.old other)) }
+{
+    peaks.push_peak_once(alloc, of, place, start, u128::from(number))
+}
+
+/// Puts a number at a place behind those of a row and of its table, unless one stands there.
+fn note_row(
+    alloc: Global,
+    peaks: &mut MarkIndex<Target, Peak>,
     of: RowKey,
     place: usize,
     start: usize,
     number: u64,
 ) -> Result<(), AllocError>
-    requires { (other : Where) → IsNonDecreasingBy (λ peak. peak.place)
-        (marks_at key_cmp peaks.old other) }
-    ensures { OnOk result ((other : Where) → marks_at key_cmp peaks.new other
-        ≡ with_mark (is_eq (key_cmp of other)
-        && not (is_last (λ its. its.place == place) (marks_at key_cmp peaks.old of)))
-        (next_peak (marks_at key_cmp peaks.old of) place start number)
-        (marks_at key_cmp peaks.old other)) }
+    requires { AreMarked place start number peaks.old }
+    ensures { (its : AreMarked place start number peaks.old)
+        → OnOk result ((what : What) → marks_at target_cmp peaks.new what
+        ≡ with_mark (its.put what || covers what (place_in of))
+        (next_peak (its.base what) place start number) (its.base what)) }
 {
-    peaks.push_peak_once(alloc, of, place, start, u128::from(number))
+    note_peak(alloc, peaks, row_target(of), place, start, number)?;
+    note_peak(alloc, peaks, table_target(of.table), place, start, number)
 }
 
-/// Puts a number at a place behind those of each key that is changed up to it.
+/// Puts a number at a place behind those of each row and table that is changed up to it.
 fn note_peaks(
     alloc: Global,
-    peaks: &mut MarkIndex<RowKey, Peak>,
+    peaks: &mut MarkIndex<Target, Peak>,
     own: &[Change<'_>],
     place: usize,
     start: usize,
     number: u64,
 ) -> Result<(), AllocError>
-    requires rise { (of : Where) → IsNonDecreasingBy (λ peak. peak.place)
-        (marks_at key_cmp peaks.old of) }
-    requires below { (of : Where)
-        → list_all (λ peak. nat_lt peak.place place) (marks_at key_cmp peaks.old of) ≡ true }
-    ensures { OnOk result ((of : Where) → marks_at key_cmp peaks.new of
+    requires rise { (of : What) → IsNonDecreasingBy (λ peak. peak.place)
+        (marks_at target_cmp peaks.old of) }
+    requires below { (of : What)
+        → list_all (λ peak. nat_lt peak.place place) (marks_at target_cmp peaks.old of) ≡ true }
+    ensures { OnOk result ((of : What) → marks_at target_cmp peaks.new of
         ≡ with_mark (is_written of place own.now)
-        (next_peak (marks_at key_cmp peaks.old of) place start number)
-        (marks_at key_cmp peaks.old of)) }
+        (next_peak (marks_at target_cmp peaks.old of) place start number)
+        (marks_at target_cmp peaks.old of)) }
 {
     for change in own.iter() {
         if change.left.time <= place as u64 {
-            note_peak(alloc, peaks, change.of, place, start, number)?;
+            note_row(alloc, peaks, change.of, place, start, number)?;
         }
     }
     Ok(())
@@ -133,17 +171,17 @@ impl<'w, 'a> Written<'w, 'a> {
         &self,
         alloc: Global,
         replies: &[KeptReply<'a>],
-        numbers: &mut MarkIndex<RowKey, u64>,
+        numbers: &mut MarkIndex<Target, u64>,
         number: u64,
     ) -> Result<(), AllocError>
         requires written { IsWritten (entries_of replies.now) self.now }
-        requires below { (of : Where)
-            → list_all (λ its. nat_lt its number) (marks_at key_cmp numbers.old of) ≡ true }
-        ensures { OnOk result ((of : Where) → marks_at key_cmp numbers.new of
-            ≡ with_mark (writes_place (place_in of)
+        requires below { (of : What)
+            → list_all (λ its. nat_lt its number) (marks_at target_cmp numbers.old of) ≡ true }
+        ensures { OnOk result ((of : What) → marks_at target_cmp numbers.new of
+            ≡ with_mark (wrote of
             (committed_writes (entries_of replies.now)
             (transactions_of (entries_of replies.now)) number)) number
-            (marks_at key_cmp numbers.old of)) }
+            (marks_at target_cmp numbers.old of)) }
     {
         let _ = replies;
         let Some(place) = self.places.first(number) else {
@@ -167,7 +205,7 @@ impl<'w, 'a> Written<'w, 'a> {
         alloc: Global,
         replies: &[KeptReply<'a>],
         count: usize,
-    ) -> Result<MarkIndex<RowKey, u64>, AllocError>
+    ) -> Result<MarkIndex<Target, u64>, AllocError>
         requires written { IsWritten (entries_of replies.now) self.now }
         requires count { count ≡ commit_count (entries_of replies.now) }
         ensures { IfOk result (λ numbers. AreNumbers (entries_of replies.now) count numbers) }
@@ -198,22 +236,22 @@ impl<'w, 'a> Written<'w, 'a> {
         &self,
         alloc: Global,
         replies: &[KeptReply<'a>],
-        peaks: &mut MarkIndex<RowKey, Peak>,
+        peaks: &mut MarkIndex<Target, Peak>,
         place: usize,
         count: usize,
     ) -> Result<(), AllocError>
         requires written { IsWritten (entries_of replies.now) self.now }
         requires count { count ≡ commit_count (entries_of replies.now) }
         requires inside { place < length replies.now }
-        requires rise { (of : Where) → IsNonDecreasingBy (λ peak. peak.place)
-            (marks_at key_cmp peaks.old of) }
-        requires below { (of : Where)
-            → list_all (λ peak. nat_lt peak.place place) (marks_at key_cmp peaks.old of) ≡ true }
-        ensures { OnOk result ((none : Kept) (of : Where)
+        requires rise { (of : What) → IsNonDecreasingBy (λ peak. peak.place)
+            (marks_at target_cmp peaks.old of) }
+        requires below { (of : What)
+            → list_all (λ peak. nat_lt peak.place place) (marks_at target_cmp peaks.old of) ≡ true }
+        ensures { OnOk result ((none : Kept) (of : What)
             → let value = value_at (entries_of replies.now) of (asked_at replies.now place none) in
-            marks_at key_cmp peaks.new of ≡ with_mark (nat_lt 0 value)
-            (next_peak (marks_at key_cmp peaks.old of) place
-            (starts_in (entries_of replies.now) place) value) (marks_at key_cmp peaks.old of)) }
+            marks_at target_cmp peaks.new of ≡ with_mark (nat_lt 0 value)
+            (next_peak (marks_at target_cmp peaks.old of) place
+            (starts_in (entries_of replies.now) place) value) (marks_at target_cmp peaks.old of)) }
     {
         let Some(number) = self.line_at(replies, place, count) else {
             return Ok(());
@@ -232,7 +270,7 @@ impl<'w, 'a> Written<'w, 'a> {
         alloc: Global,
         replies: &[KeptReply<'a>],
         count: usize,
-    ) -> Result<MarkIndex<RowKey, Peak>, AllocError>
+    ) -> Result<MarkIndex<Target, Peak>, AllocError>
         requires written { IsWritten (entries_of replies.now) self.now }
         requires count { count ≡ commit_count (entries_of replies.now) }
         ensures { IfOk result (λ peaks. ArePeaksUpTo (entries_of replies.now) (length replies.now)

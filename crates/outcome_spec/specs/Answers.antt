@@ -1,7 +1,7 @@
 -- What reads and writes are answered: what snapshot isolation gives at the transaction's snapshot,
 -- with its own writes laid over it.
 use Rattle.std.specs.Prelude.{ℕ, Bool, true, false, not, List, Option, None, Some, is_some, is_none}
-use Rattle.std.specs.Prelude.{bytes_eq}
+use Rattle.std.specs.Prelude.{bytes_eq, ℤ, ◌&&◌, ◌==◌, length}
 use Rattle.std.specs.Bool.{beq}
 use Rattle.std.specs.Cmp.Lexicographic.{pointwise}
 use Rattle.std.specs.Option.{option_map_or}
@@ -9,6 +9,7 @@ use Rattle.std.specs.Ordering.{int_eq}
 use Rattle.cell_model.specs.declared.cell.Cell.{Cell}
 use Rattle.cell_model.specs.declared.cell.Cell.TheVariants.{Null, Num, Truth, Text, Blob}
 use Rattle.isolation_spec.specs.Contents.{State, at_place, contents_of, place_at, place_of}
+use Rattle.isolation_spec.specs.Contents.{contents_between, numbers_between, sum_of}
 use Rattle.isolation_spec.specs.declared.place.Place.{Place}
 use Rattle.workload_spec.specs.declared.command.Command.{Command}
 use Rattle.workload_spec.specs.declared.command.Command.TheVariants as command
@@ -48,19 +49,77 @@ is_cell (Blob a) (Blob b) = bytes_eq a b
 abbrev pub is_row : List Cell → List Cell → Bool
 is_row a b = pointwise is_cell a b
 
--- the place that a get asks for, and the table that a scan does
+-- the place that a get asks for
 abbrev pub got_place : Command → Option Place
 got_place (command.Get table key) = Some (place_at table key)
-got_place _ = None
+got_place (command.Begin checked) = None
+got_place (command.Scan table) = None
+got_place (command.Range table low high) = None
+got_place (command.Total table column low high) = None
+got_place (command.Insert table row) = None
+got_place (command.Update table row) = None
+got_place (command.Delete table key) = None
+got_place command.Commit = None
+got_place command.Abort = None
+got_place command.Observe = None
+got_place command.Prune = None
+got_place (command.Compact table) = None
+got_place (command.Seal table block) = None
+got_place (command.Gather table block) = None
+got_place (command.Export table) = None
 
-abbrev pub scanned_table : Command → Option ℕ
-scanned_table (command.Scan table) = Some table
-scanned_table _ = None
+-- the rows that a scan or a range asks for, of those that are seen
+abbrev pub rows_asked : State → Command → Option (List (List Cell))
+rows_asked seen (command.Scan table) = Some (contents_of table seen)
+rows_asked seen (command.Range table low high) = Some
+    (contents_between table low high seen)
+rows_asked seen (command.Begin checked) = None
+rows_asked seen (command.Get table key) = None
+rows_asked seen (command.Total table column low high) = None
+rows_asked seen (command.Insert table row) = None
+rows_asked seen (command.Update table row) = None
+rows_asked seen (command.Delete table key) = None
+rows_asked seen command.Commit = None
+rows_asked seen command.Abort = None
+rows_asked seen command.Observe = None
+rows_asked seen command.Prune = None
+rows_asked seen (command.Compact table) = None
+rows_asked seen (command.Seal table block) = None
+rows_asked seen (command.Gather table block) = None
+rows_asked seen (command.Export table) = None
 
--- What a read shows of the rows that are seen: a get the row of its key or that there is none, a
--- scan all rows of its table in the order of their keys.
+-- the numbers that a total asks for, of the rows that are seen
+abbrev pub numbers_asked : State → Command → Option (List ℤ)
+numbers_asked seen (command.Total table column low high) = Some
+    (numbers_between column low high (contents_of table seen))
+numbers_asked seen (command.Begin checked) = None
+numbers_asked seen (command.Get table key) = None
+numbers_asked seen (command.Scan table) = None
+numbers_asked seen (command.Range table low high) = None
+numbers_asked seen (command.Insert table row) = None
+numbers_asked seen (command.Update table row) = None
+numbers_asked seen (command.Delete table key) = None
+numbers_asked seen command.Commit = None
+numbers_asked seen command.Abort = None
+numbers_asked seen command.Observe = None
+numbers_asked seen command.Prune = None
+numbers_asked seen (command.Compact table) = None
+numbers_asked seen (command.Seal table block) = None
+numbers_asked seen (command.Gather table block) = None
+numbers_asked seen (command.Export table) = None
+
+-- there are so many of these numbers, and this is their sum
+abbrev pub is_total_of : ℕ → ℤ → List ℤ → Bool
+is_total_of count sum numbers = count == length numbers && int_eq sum (sum_of numbers)
+
+-- What a read shows of the rows that are seen: a get the row of its key or that there is none; a
+-- scan all rows of its table in the order of their keys, a range those between its keys; a total
+-- how many numbers of its column lie between its two, and their sum.
 abbrev pub read_holds : State → Command → Said → Bool
 read_holds seen asked (said.At number) = true
+read_holds seen asked (said.Stale read number) = true
+read_holds seen asked (said.Totalled count sum) = option_map_or (is_total_of count sum)
+    (numbers_asked seen asked) true
 read_holds seen asked said.InTransaction = true
 read_holds seen asked said.NoTransaction = true
 read_holds seen asked (said.Found row) = option_map_or
@@ -68,7 +127,7 @@ read_holds seen asked (said.Found row) = option_map_or
 read_holds seen asked said.Absent = option_map_or (λ place. is_none (at_place seen place))
     (got_place asked) true
 read_holds seen asked (said.Scanned rows) = option_map_or
-    (λ table. pointwise is_row rows (contents_of table seen)) (scanned_table asked) true
+    (λ seen_rows. pointwise is_row rows seen_rows) (rows_asked seen asked) true
 read_holds seen asked said.Accepted = true
 read_holds seen asked (said.ConflictSession session) = true
 read_holds seen asked (said.ConflictCommit number) = true
@@ -101,8 +160,10 @@ abbrev pub is_acceptable : State → Command → Bool
 is_acceptable seen (command.Insert table row) = is_none (at_place seen (place_of table row))
 is_acceptable seen (command.Update table row) = is_some (at_place seen (place_of table row))
 is_acceptable seen (command.Delete table key) = is_some (at_place seen (place_at table key))
-is_acceptable seen command.Begin = true
+is_acceptable seen (command.Begin checked) = true
 is_acceptable seen (command.Get table key) = true
+is_acceptable seen (command.Range table low high) = true
+is_acceptable seen (command.Total table column low high) = true
 is_acceptable seen (command.Scan table) = true
 is_acceptable seen command.Commit = true
 is_acceptable seen command.Abort = true
@@ -113,7 +174,8 @@ is_acceptable seen (command.Seal table block) = true
 is_acceptable seen (command.Gather table block) = true
 is_acceptable seen (command.Export table) = true
 
--- `ok`, `freezing` and `full` stand only where the write is acceptable, `exists` and `missing` only where it isn't.
+-- `ok`, `freezing` and `full` stand only where the write is acceptable, `exists` and `missing` only
+-- where it isn't.
 abbrev pub write_holds : Bool → Said → Bool
 write_holds acceptable said.Accepted = acceptable
 write_holds acceptable (said.Freezing table block stamp) = acceptable
@@ -121,6 +183,8 @@ write_holds acceptable said.Full = acceptable
 write_holds acceptable said.Exists = not acceptable
 write_holds acceptable said.Missing = not acceptable
 write_holds acceptable (said.At number) = true
+write_holds acceptable (said.Stale read number) = true
+write_holds acceptable (said.Totalled count sum) = true
 write_holds acceptable said.InTransaction = true
 write_holds acceptable said.NoTransaction = true
 write_holds acceptable (said.Found row) = true

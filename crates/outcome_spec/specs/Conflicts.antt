@@ -31,8 +31,8 @@ has_write place entries = list_any
     (λ entry. option_map_or (λ write. is_place write.0 place) (accepted_write entry) false)
     entries
 
--- `conflict #k`: k is above the snapshot, its write set has the place, the line `committed k` isn't after this
--- reply, and no greater number before it has the place.
+-- `conflict #k`: k is above the snapshot, its write set has the place, the line `committed k` isn't
+-- after this reply, and no greater number before it has the place.
 abbrev pub names_commit : Run → Span → Place → Entry → ℕ → Bool
 names_commit run t place entry number =
     list_any (λ later. later == number) (later_writers run.history t.snapshot place)
@@ -40,8 +40,8 @@ names_commit run t place entry number =
     && list_all (λ later. nat_le later number || not (is_committed_before run entry later))
     (later_writers run.history t.snapshot place)
 
--- `conflict session q`: q is another session with an accepted write of the place, not after this reply, in a
--- transaction whose end isn't before it.
+-- `conflict session q`: q is another session with an accepted write of the place, not after this
+-- reply, in a transaction whose end isn't before it.
 abbrev pub names_session : Run → Span → Place → Entry → ℕ → Bool
 names_session run t place entry session = list_any (λ rival.
     is_same rival.who (Session session) && not (is_same rival.who t.who)
@@ -77,6 +77,8 @@ is_clear run t place entry = passes_no_commit run t place entry
 -- which of the rules each reply keeps; none speaks of refused memory
 abbrev pub conflict_holds : Run → Span → Place → Entry → Said → Bool
 conflict_holds run t place entry (said.At number) = is_clear run t place entry
+conflict_holds run t place entry (said.Stale read number) = is_clear run t place entry
+conflict_holds run t place entry (said.Totalled count sum) = is_clear run t place entry
 conflict_holds run t place entry said.InTransaction = is_clear run t place entry
 conflict_holds run t place entry said.NoTransaction = is_clear run t place entry
 conflict_holds run t place entry (said.Found row) = is_clear run t place entry

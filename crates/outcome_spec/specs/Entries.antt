@@ -77,6 +77,8 @@ abbrev pub is_end : Said → Bool
 is_end (said.Committed number) = true
 is_end said.Aborted = true
 is_end (said.At number) = false
+is_end (said.Stale read number) = false
+is_end (said.Totalled count sum) = false
 is_end said.InTransaction = false
 is_end said.NoTransaction = false
 is_end (said.Found row) = false

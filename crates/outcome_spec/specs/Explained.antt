@@ -11,6 +11,7 @@ use Rattle.outcome_spec.specs.Runs.{Run, run_of}
 use Rattle.outcome_spec.specs.Numbers.{commit_numbers_hold, snapshot_numbers_hold}
 use Rattle.outcome_spec.specs.Answers.{reads_hold, writes_hold}
 use Rattle.outcome_spec.specs.Conflicts.{conflicts_hold}
+use Rattle.outcome_spec.specs.Stale.{reads_last}
 use Rattle.outcome_spec.specs.Upkeep.{freezing_holds, full_holds, exports_hold, upkeep_holds}
 
 -- The replies of a text: its lines are those of the replies that are due, with number, order and
@@ -32,7 +33,7 @@ is_sound run entry =
     commit_numbers_hold run entry && snapshot_numbers_hold run entry
     && reads_hold run entry && writes_hold run entry && conflicts_hold run entry
     && freezing_holds run entry && full_holds run entry && exports_hold run entry
-    && upkeep_holds run entry
+    && upkeep_holds run entry && reads_last run entry
 
 -- Each of the replies is.
 abbrev pub are_sound : Run → Bool

@@ -1,15 +1,16 @@
 -- Which lines an output has: whom each of them answers, in which order, and what it may say.
 use Rattle.std.specs.Prelude.{ℕ, ◌+◌, max, Bool, true, false, ◌&&◌, ◌||◌, not, ◌==◌, List, [], ◌∷◌}
 use Rattle.std.specs.Prelude.{◌++◌, map, filter, filter_map, flat_map, length, take, drop, find}
-use Rattle.std.specs.Prelude.{count_by, sum_by, fold, ℤ, bytes_eq, codes, decimal, if◌then◌else◌}
-use Rattle.std.specs.Prelude.{Option, None, Some, Result, Ok, Err}
+use Rattle.std.specs.Prelude.{count_by, sum_by, fold, position, ℤ, pos, negsuc, ◌-◌, ◌^◌, bytes_eq}
+use Rattle.std.specs.Prelude.{codes, decimal, if◌then◌else◌, Option, None, Some, option_map}
+use Rattle.std.specs.Prelude.{option_and_then, Result, Ok, Err}
 use Rattle.std.specs.List.{list_all, starts_with, enumerate_from, range_with_len}
 use Rattle.std.specs.Option.{option_map_or}
 use Rattle.std.specs.Ordering.{int_eq}
 use Rattle.cell_model.specs.declared.column.Column.{Column}
 use Rattle.cell_model.specs.declared.kind.Kind.TheVariants as kind
 use Rattle.cell_model.specs.declared.table.TableDecl.{TableDecl}
-use Rattle.cell_model.specs.Values.{is_integer_of}
+use Rattle.cell_model.specs.Values.{is_between, is_integer_of}
 use Rattle.isolation_spec.specs.Contents.{key_of}
 use Rattle.workload_spec.specs.declared.command.Command.{Command}
 use Rattle.workload_spec.specs.declared.command.Command.TheVariants as command
@@ -19,6 +20,8 @@ use Rattle.workload_spec.specs.declared.reply.Who.{Who}
 use Rattle.workload_spec.specs.declared.reply.Who.TheVariants.{Session, Worker}
 use Rattle.workload_spec.specs.declared.reply.Said.{Said}
 use Rattle.workload_spec.specs.declared.reply.Said.TheVariants as said
+use Rattle.workload_spec.specs.declared.reply.StaleRead.{StaleRead}
+use Rattle.workload_spec.specs.declared.reply.StaleRead.TheVariants as stale
 use Rattle.workload_spec.specs.declared.reply.SealCause.TheVariants.{Phase, Head, Empty, Gaps}
 use Rattle.workload_spec.specs.declared.reply.SealCause.TheVariants.{Versions, Hot, Last}
 use Rattle.workload_spec.specs.Words.{line_feed, spaced}
@@ -26,7 +29,7 @@ use Rattle.workload_spec.specs.declared.reply.ReplyLine.{ReplyLine}
 use Rattle.workload_spec.specs.ReplyText.{reply_text, reply_lines, who_text}
 use Rattle.outcome_spec.specs.Lines.{lines_of}
 use Rattle.outcome_spec.specs.Reading.{words_in, row_of, rows_above, integer_at, u32_at, u64_at}
-use Rattle.outcome_spec.specs.Reading.{tagged_u64_at}
+use Rattle.outcome_spec.specs.Reading.{tagged_u64_at, word_at}
 use Rattle.outcome_spec.specs.Entries.{Entry, is_same}
 use Rattle.outcome_spec.specs.Tables.{columns_at}
 
@@ -73,6 +76,8 @@ abbrev pub is_silent : Said → Bool
 is_silent (said.NotSealed cause) = true
 is_silent said.NotFrozen = true
 is_silent (said.At number) = false
+is_silent (said.Stale read number) = false
+is_silent (said.Totalled count sum) = false
 is_silent said.InTransaction = false
 is_silent said.NoTransaction = false
 is_silent (said.Found row) = false
@@ -99,8 +104,10 @@ is_silent said.Memory = false
 abbrev pub is_seal_or_gather : Command → Bool
 is_seal_or_gather (command.Seal table block) = true
 is_seal_or_gather (command.Gather table block) = true
-is_seal_or_gather command.Begin = false
+is_seal_or_gather (command.Begin checked) = false
 is_seal_or_gather (command.Get table key) = false
+is_seal_or_gather (command.Range table low high) = false
+is_seal_or_gather (command.Total table column low high) = false
 is_seal_or_gather (command.Scan table) = false
 is_seal_or_gather (command.Insert table row) = false
 is_seal_or_gather (command.Update table row) = false
@@ -145,12 +152,58 @@ change_replies table words =
     said.Accepted ∷ said.Missing ∷ said.Memory ∷ said.Freezing table (u32_at words 2)
     (u32_at words 3) ∷ conflict_replies words
 
+-- a total, whose sum is a number of 128 bits
+abbrev pub total_replies : List (List ℕ) → List Said
+total_replies words =
+    if is_between (negsuc (2 ^ 127 - 1)) (pos (2 ^ 127 - 1)) (integer_at words 2)
+    then said.Totalled (u64_at words 1) (integer_at words 2) ∷ []
+    else []
+
+-- the table that a word names, and the key, which is an i64, that it is
+abbrev pub table_at : List TableDecl → List (List ℕ) → ℕ → Option ℕ
+table_at tables words at = position (λ table. bytes_eq table.name (word_at words at)) tables
+
+abbrev pub key_at : List (List ℕ) → ℕ → Option ℤ
+key_at words at = if is_integer_of kind.I64 (integer_at words at) then Some (integer_at words at)
+    else None
+
+-- the read that the words of a stale commit name: a key behind its table, a table, or a range
+abbrev pub key_named : List TableDecl → List (List ℕ) → Option StaleRead
+key_named tables words = option_and_then
+    (λ table. option_map (λ key. stale.Key table key) (key_at words 2))
+    (table_at tables words 1)
+
+abbrev pub table_named : List TableDecl → List (List ℕ) → Option StaleRead
+table_named tables words = option_map (λ table. stale.Table table) (table_at tables words 2)
+
+abbrev pub range_named : List TableDecl → List (List ℕ) → Option StaleRead
+range_named tables words = option_and_then
+    (λ table. option_and_then
+    (λ low. option_map (λ high. stale.Range table low high) (key_at words 4)) (key_at words 3))
+    (table_at tables words 2)
+
+-- the reply that names a read, where there is one, and the number in the word at this place
+abbrev pub stale_reply : List (List ℕ) → ℕ → Option StaleRead → List Said
+stale_reply words at what = option_map_or
+    (λ its. said.Stale its (tagged_u64_at words at) ∷ []) what []
+
+-- what a commit that is refused may be told
+abbrev pub stale_replies : List TableDecl → List (List ℕ) → List Said
+stale_replies tables words =
+    stale_reply words 3 (key_named tables words)
+    ++ stale_reply words 3 (table_named tables words)
+    ++ stale_reply words 5 (range_named tables words)
+
 -- What a command may be told that needs no transaction or has one. The numbers and rows are those
 -- of the line's words, `behind` are the lines that follow it.
 abbrev pub replies_within : List TableDecl → List (List ℕ) → List (List ℕ) → Command → List Said
-replies_within tables words behind command.Begin = said.InTransaction ∷ []
+replies_within tables words behind (command.Begin checked) = said.InTransaction ∷ []
 replies_within tables words behind (command.Get table key) = said.Absent ∷ said.Memory ∷ row_replies
     (columns_at tables table) key words
+replies_within tables words behind (command.Range table low high) = said.Memory ∷ scan_replies
+    (columns_at tables table) words behind
+replies_within tables words behind (command.Total table column low high) = said.Memory
+    ∷ total_replies words
 replies_within tables words behind (command.Scan table) = said.Memory ∷ scan_replies
     (columns_at tables table) words behind
 replies_within tables words behind (command.Insert table row) = said.Accepted ∷ said.Exists
@@ -158,7 +211,7 @@ replies_within tables words behind (command.Insert table row) = said.Accepted �
 replies_within tables words behind (command.Update table row) = change_replies table words
 replies_within tables words behind (command.Delete table key) = change_replies table words
 replies_within tables words behind command.Commit = said.Committed None ∷ said.Committed
-    (Some (u64_at words 1)) ∷ []
+    (Some (u64_at words 1)) ∷ stale_replies tables words
 replies_within tables words behind command.Abort = said.Aborted ∷ []
 replies_within tables words behind command.Observe = said.Cooling (u64_at words 1) ∷ []
 replies_within tables words behind command.Prune = said.Pruned (u64_at words 1) ∷ []
@@ -180,8 +233,10 @@ is_upkeep command.Prune = true
 is_upkeep (command.Compact table) = true
 is_upkeep (command.Seal table block) = true
 is_upkeep (command.Gather table block) = true
-is_upkeep command.Begin = false
+is_upkeep (command.Begin checked) = false
 is_upkeep (command.Get table key) = false
+is_upkeep (command.Range table low high) = false
+is_upkeep (command.Total table column low high) = false
 is_upkeep (command.Scan table) = false
 is_upkeep (command.Insert table row) = false
 is_upkeep (command.Update table row) = false
@@ -192,8 +247,10 @@ is_upkeep (command.Export table) = false
 
 -- what a command that needs a transaction may be told without one: `begin` opens it
 abbrev pub replies_without : List (List ℕ) → Command → List Said
-replies_without words command.Begin = said.At (u64_at words 1) ∷ []
+replies_without words (command.Begin checked) = said.At (u64_at words 1) ∷ []
 replies_without words (command.Get table key) = said.NoTransaction ∷ []
+replies_without words (command.Range table low high) = said.NoTransaction ∷ []
+replies_without words (command.Total table column low high) = said.NoTransaction ∷ []
 replies_without words (command.Scan table) = said.NoTransaction ∷ []
 replies_without words (command.Insert table row) = said.NoTransaction ∷ []
 replies_without words (command.Update table row) = said.NoTransaction ∷ []
@@ -212,6 +269,8 @@ abbrev pub within_behind : Bool → Said → Bool
 within_behind within (said.At number) = true
 within_behind within (said.Committed number) = false
 within_behind within said.Aborted = false
+within_behind within (said.Stale read number) = within
+within_behind within (said.Totalled count sum) = within
 within_behind within said.InTransaction = within
 within_behind within said.NoTransaction = within
 within_behind within (said.Found row) = within
@@ -287,10 +346,24 @@ reply_at tables earlier due line behind = find (begins_with tables (line ∷ beh
     (map (entry_behind tables earlier due)
     (replies_due tables earlier due (drop 3 (words_in line)) behind))
 
--- the table that a command scans in a transaction
+-- the table of which a command asks for rows in a transaction
 abbrev pub scanned_by : Bool → Command → Option ℕ
 scanned_by within (command.Scan table) = if within then Some table else None
-scanned_by within _ = None
+scanned_by within (command.Range table low high) = if within then Some table else None
+scanned_by within (command.Begin checked) = None
+scanned_by within (command.Get table key) = None
+scanned_by within (command.Total table column low high) = None
+scanned_by within (command.Insert table row) = None
+scanned_by within (command.Update table row) = None
+scanned_by within (command.Delete table key) = None
+scanned_by within command.Commit = None
+scanned_by within command.Abort = None
+scanned_by within command.Observe = None
+scanned_by within command.Prune = None
+scanned_by within (command.Compact table) = None
+scanned_by within (command.Seal table block) = None
+scanned_by within (command.Gather table block) = None
+scanned_by within (command.Export table) = None
 
 -- the first line of a scan of so many rows
 abbrev pub scan_line : ReplyLine → ℕ → List ℕ

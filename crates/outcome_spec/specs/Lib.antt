@@ -7,6 +7,7 @@ pub mod Runs
 pub mod Numbers
 pub mod Answers
 pub mod Conflicts
+pub mod Stale
 pub mod Upkeep
 pub mod Explained
 pub mod Opened
@@ -14,3 +15,4 @@ pub mod Samples
 pub mod Scripts
 pub mod Examples
 pub mod Refusals
+pub mod CheckedExamples

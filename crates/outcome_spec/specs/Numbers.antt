@@ -14,7 +14,8 @@ has_written run entry = option_map_or
     (λ t. list_any (λ other. is_some (accepted_write other)) t.replies)
     (transaction_of run entry) false
 
--- `committed k`: k is 1 to the count of commit numbers shown, on no other line, and above each commit number before.
+-- `committed k`: k is 1 to the count of commit numbers shown, on no other line, and above each
+-- commit number before.
 abbrev pub is_commit_number : Run → Entry → ℕ → Bool
 is_commit_number run entry number =
     nat_le 1 number && nat_le number (commit_count run.entries)
@@ -28,6 +29,8 @@ commit_holds run entry (said.Committed None) = not (has_written run entry)
 commit_holds run entry (said.Committed (Some number)) = has_written run entry
     && is_commit_number run entry number
 commit_holds run entry (said.At number) = true
+commit_holds run entry (said.Stale read number) = true
+commit_holds run entry (said.Totalled count sum) = true
 commit_holds run entry said.InTransaction = true
 commit_holds run entry said.NoTransaction = true
 commit_holds run entry (said.Found row) = true
@@ -56,13 +59,15 @@ commit_holds run entry said.Memory = true
 abbrev pub commit_numbers_hold : Run → Entry → Bool
 commit_numbers_hold run entry = commit_holds run entry entry.reply.said
 
--- the number that a reply shows: a snapshot's, a commit's, that of a conflict with a commit, or an
--- export's
+-- the number that a reply shows: a snapshot's, a commit's, that of a conflict with a commit or of a
+-- stale read, or an export's
 abbrev pub number_shown : Said → Option ℕ
 number_shown (said.At number) = Some number
 number_shown (said.Committed number) = number
 number_shown (said.ConflictCommit number) = Some number
 number_shown (said.Exported number rows batches frozen) = Some number
+number_shown (said.Stale read number) = Some number
+number_shown (said.Totalled count sum) = None
 number_shown said.InTransaction = None
 number_shown said.NoTransaction = None
 number_shown (said.Found row) = None
@@ -85,13 +90,16 @@ number_shown said.NotFrozen = None
 number_shown (said.Dirty key) = None
 number_shown said.Memory = None
 
--- `at n`: n is at most the count of commit numbers shown, at least each number shown before, and below each commit number after.
+-- `at n`: n is at most the count of commit numbers shown, at least each number shown before, and
+-- below each commit number after.
 abbrev pub snapshot_holds : Run → Entry → Said → Bool
 snapshot_holds run entry (said.At number) =
     nat_le number (commit_count run.entries)
     && list_all (λ earlier. nat_le earlier number)
     (shown_in number_shown (before run.entries entry))
     && list_all (λ later. nat_lt number later) (shown_in commit_in (after run.entries entry))
+snapshot_holds run entry (said.Stale read number) = true
+snapshot_holds run entry (said.Totalled count sum) = true
 snapshot_holds run entry said.InTransaction = true
 snapshot_holds run entry said.NoTransaction = true
 snapshot_holds run entry (said.Found row) = true

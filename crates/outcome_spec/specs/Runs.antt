@@ -58,8 +58,10 @@ abbrev pub write_of : Command → Option (Place × Option (List Cell))
 write_of (command.Insert table row) = Some (place_of table row, Some row)
 write_of (command.Update table row) = Some (place_of table row, Some row)
 write_of (command.Delete table key) = Some (place_at table key, None)
-write_of command.Begin = None
+write_of (command.Begin checked) = None
 write_of (command.Get table key) = None
+write_of (command.Range table low high) = None
+write_of (command.Total table column low high) = None
 write_of (command.Scan table) = None
 write_of command.Commit = None
 write_of command.Abort = None

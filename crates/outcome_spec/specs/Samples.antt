@@ -63,7 +63,17 @@ abbrev pub asks : ℕ → Command → Line
 asks session asked = record { session = session; command = asked }
 
 abbrev pub begin : ℕ → Line
-begin session = asks session command.Begin
+begin session = asks session (command.Begin false)
+
+abbrev pub begin_checked : ℕ → Line
+begin_checked session = asks session (command.Begin true)
+
+-- the rows of the keys between two, and a total of a column's numbers between two
+abbrev pub range : ℕ → ℕ → ℕ → Line
+range session low high = asks session (command.Range 0 (pos low) (pos high))
+
+abbrev pub total : ℕ → ℕ → ℕ → ℕ → Line
+total session column low high = asks session (command.Total 0 column (pos low) (pos high))
 
 abbrev pub get : ℕ → ℕ → Line
 get session key = asks session (command.Get 0 (pos key))

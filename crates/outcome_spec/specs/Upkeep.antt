@@ -39,13 +39,16 @@ abbrev pub stamp_count : ℕ → ℕ → ℕ → List Entry → ℕ
 stamp_count table block stamp entries = count_by (λ shown. shown == stamp)
     (shown_in (stamp_in table block) entries)
 
--- `freezing T b g`: `sealed T b g` is one line, not after this reply, and fewer than g lines `frozen T b` are before it.
+-- `freezing T b g`: `sealed T b g` is one line, not after this reply, and fewer than g lines
+-- `frozen T b` are before it.
 abbrev pub freezing_reply_holds : Run → Entry → Said → Bool
 freezing_reply_holds run entry (said.Freezing table block stamp) =
     stamp_count table block stamp run.entries == 1
     && stamp_count table block stamp (not_after run.entries entry) == 1
     && nat_lt (freezes_in table block (before run.entries entry)) stamp
 freezing_reply_holds run entry (said.At number) = true
+freezing_reply_holds run entry (said.Stale read number) = true
+freezing_reply_holds run entry (said.Totalled count sum) = true
 freezing_reply_holds run entry said.InTransaction = true
 freezing_reply_holds run entry said.NoTransaction = true
 freezing_reply_holds run entry (said.Found row) = true
@@ -93,9 +96,12 @@ inserts_in table entries = count_by
 abbrev pub capacity_at : List TableDecl → ℕ → ℕ
 capacity_at tables table = blocks_at tables table * slots_at tables table
 
--- `full`: at least as many accepted inserts into the table as its blocks have slots are not after this reply.
+-- `full`: at least as many accepted inserts into the table as its blocks have slots are not after
+-- this reply.
 abbrev pub full_reply_holds : Run → Entry → Said → Bool
 full_reply_holds run entry (said.At number) = true
+full_reply_holds run entry (said.Stale read number) = true
+full_reply_holds run entry (said.Totalled count sum) = true
 full_reply_holds run entry said.InTransaction = true
 full_reply_holds run entry said.NoTransaction = true
 full_reply_holds run entry (said.Found row) = true
@@ -132,9 +138,9 @@ abbrev pub frozen_blocks : List TableDecl → ℕ → List Entry → ℕ
 frozen_blocks tables table entries = count_by (λ block. nat_lt 0 (freezes_in table block entries))
     (range_with_len 0 (blocks_at tables table))
 
--- `export n rows R batches B frozen F`: n is the transaction's, R the rows of the table at n, F at most B, B at most
--- R, R at most B times the slots, B at most the table's blocks, and F at most those with a `frozen`
--- not after.
+-- `export n rows R batches B frozen F`: n is the transaction's, R the rows of the table at n, F at
+-- most B, B at most R, R at most B times the slots, B at most the table's blocks, and F at most
+-- those with a `frozen` not after.
 abbrev pub summary_holds : Run → Span → Entry → ℕ → ℕ → ℕ → ℕ → ℕ → Bool
 summary_holds run t entry table number rows batches frozen =
     number == t.snapshot && rows == length (contents_of table (state_at run.history number))
@@ -152,6 +158,8 @@ exported_table _ = None
 -- shows the least key of these
 abbrev pub export_reply_holds : Run → Span → Entry → ℕ → Said → Bool
 export_reply_holds run t entry table (said.At number) = true
+export_reply_holds run t entry table (said.Stale read number) = true
+export_reply_holds run t entry table (said.Totalled count sum) = true
 export_reply_holds run t entry table said.InTransaction = true
 export_reply_holds run t entry table said.NoTransaction = true
 export_reply_holds run t entry table (said.Found row) = true
@@ -187,7 +195,8 @@ exports_hold run entry = option_map_or
     (exported_table entry.command) true)
     (transaction_of run entry) true
 
--- `sealed T b g`: g is 1 to the count of lines `sealed T b`, on no other of them, and above that of each of them before.
+-- `sealed T b g`: g is 1 to the count of lines `sealed T b`, on no other of them, and above that of
+-- each of them before.
 abbrev pub seal_holds : Run → Entry → ℕ → ℕ → ℕ → Bool
 seal_holds run entry table block stamp =
     nat_le 1 stamp && nat_le stamp (seals_in table block run.entries)
@@ -195,7 +204,8 @@ seal_holds run entry table block stamp =
     && list_all (λ earlier. nat_lt earlier stamp)
     (shown_in (stamp_in table block) (before run.entries entry))
 
--- `frozen T b rows`: 1 to so many rows as a block has slots; it and the `frozen T b` before it are no more than the `sealed T b` not after.
+-- `frozen T b rows`: 1 to so many rows as a block has slots; it and the `frozen T b` before it are
+-- no more than the `sealed T b` not after.
 abbrev pub freeze_holds : Run → Entry → ℕ → ℕ → ℕ → Bool
 freeze_holds run entry table block rows =
     nat_le 1 rows && nat_le rows (slots_at run.tables table)
@@ -223,8 +233,8 @@ abbrev pub moved_in : Said → Option ℕ
 moved_in (said.Moved count) = Some count
 moved_in _ = None
 
--- `pruned c`: c and all pruned before are no more than the accepted writes of the transactions whose commit isn't
--- after, and twice the moved not after.
+-- `pruned c`: c and all pruned before are no more than the accepted writes of the transactions
+-- whose commit isn't after, and twice the moved not after.
 abbrev pub prune_holds : Run → Entry → ℕ → Bool
 prune_holds run entry count = nat_le (count + sum (shown_in pruned_in (before run.entries entry)))
     (writes_committed_in (not_after run.entries entry) + 2 * sum
@@ -244,6 +254,8 @@ upkeep_reply_holds run entry said.NotFrozen = idle_gather_holds run entry
 upkeep_reply_holds run entry (said.Moved count) = nat_le count most_moved
 upkeep_reply_holds run entry (said.Pruned count) = prune_holds run entry count
 upkeep_reply_holds run entry (said.At number) = true
+upkeep_reply_holds run entry (said.Stale read number) = true
+upkeep_reply_holds run entry (said.Totalled count sum) = true
 upkeep_reply_holds run entry said.InTransaction = true
 upkeep_reply_holds run entry said.NoTransaction = true
 upkeep_reply_holds run entry (said.Found row) = true

@@ -1,6 +1,14 @@
 //! Worked examples of outputs, explained and not: each is a fact that the definitions compute.
 #![tactic(auto, unfolding(crate::specs::Opened::digits, crate::specs::Opened::is_utf8, crate::specs::Opened::chars, crate::specs::Opened::encode))]
 
+ghost use Rattle.outcome_spec.specs.CheckedExamples.{write_skew, plain_skew, stale_passed_over};
+ghost use Rattle.outcome_spec.specs.CheckedExamples.{stale_in_plain, stale_unread};
+ghost use Rattle.outcome_spec.specs.CheckedExamples.{stale_in_snapshot, stale_forms, last_is_named};
+ghost use Rattle.outcome_spec.specs.CheckedExamples.{committed_beside, committed_after};
+ghost use Rattle.outcome_spec.specs.CheckedExamples.{idle_reader, refused_twice};
+ghost use Rattle.outcome_spec.specs.CheckedExamples.{phantoms_are_stale, others_stand};
+ghost use Rattle.outcome_spec.specs.CheckedExamples.{ranges_and_totals, total_forms};
+ghost use Rattle.outcome_spec.specs.CheckedExamples.{reads_are_kept};
 ghost use Rattle.outcome_spec.specs.Examples.{one_session, older_snapshot, later_commit};
 ghost use Rattle.outcome_spec.specs.Examples.{open_rival, either_wins, first_committer};
 ghost use Rattle.outcome_spec.specs.Examples.{one_key_thrice, old_version, misuse, seal_and_gather};
@@ -212,4 +220,54 @@ pub fn false_upkeep_is_found()
     ensures moved_too_many_ { moved_too_many }
     ensures pruned_too_many_ { pruned_too_many }
     ensures pruned_uncommitted_ { pruned_uncommitted }
+{}
+
+/// Two transactions read each other's key and write their own: the second to commit is refused
+/// where it is checked.
+pub fn the_second_of_a_write_skew_is_refused()
+    ensures write_skew_ { write_skew }
+    ensures plain_skew_ { plain_skew }
+{}
+
+/// False stale reads, and one that is passed over.
+pub fn false_stale_reads_are_found()
+    ensures stale_passed_over_ { stale_passed_over }
+    ensures stale_in_plain_ { stale_in_plain }
+    ensures stale_unread_ { stale_unread }
+    ensures stale_in_snapshot_ { stale_in_snapshot }
+    ensures idle_reader_ { idle_reader }
+{}
+
+/// A stale read's table is there, and its keys and its number have 64 bits.
+pub fn stale_reads_have_their_forms()
+    ensures { stale_forms }
+{}
+
+/// Of the commits before a stale reply that wrote the read the last is named, or one beside it.
+pub fn the_last_commit_that_wrote_a_read_is_named()
+    ensures last_is_named_ { last_is_named }
+    ensures committed_beside_ { committed_beside }
+    ensures committed_after_ { committed_after }
+{}
+
+/// A commit that is refused leaves the transaction open.
+pub fn a_stale_commit_leaves_the_transaction_open()
+    ensures { refused_twice }
+{}
+
+/// Rows that came since are told of what was read as a whole, and of a range that has them.
+pub fn rows_that_came_since_are_told()
+    ensures phantoms_are_stale_ { phantoms_are_stale }
+    ensures others_stand_ { others_stand }
+{}
+
+/// Ranges and totals.
+pub fn ranges_and_totals_are_judged()
+    ensures ranges_and_totals_ { ranges_and_totals }
+    ensures total_forms_ { total_forms }
+{}
+
+/// What a session's open transaction has read is told by its replies.
+pub fn what_was_read_is_told_by_replies()
+    ensures { reads_are_kept }
 {}

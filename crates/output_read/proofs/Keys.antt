@@ -57,9 +57,11 @@ who-same (Worker n) = eq-eqb n n refl
 
 -- A scan's rows answer no command without a transaction.
 without-scanned : (asked : Command) (rows : List (List _)) → answers_without asked (said.Scanned rows) ≡ false
-without-scanned command.Begin rows = refl
+without-scanned (command.Begin checked) rows = refl
 without-scanned (command.Get table key) rows = refl
 without-scanned (command.Scan table) rows = refl
+without-scanned (command.Range table low high) rows = refl
+without-scanned (command.Total table column low high) rows = refl
 without-scanned (command.Insert table row) rows = refl
 without-scanned (command.Update table row) rows = refl
 without-scanned (command.Delete table key) rows = refl
@@ -74,9 +76,11 @@ without-scanned (command.Export table) rows = refl
 
 -- A scan's rows answer no command in a transaction on one line.
 within-scanned : (tables : List TableDecl) (asked : Command) (rows : List (List _)) → answers_within tables asked (said.Scanned rows) ≡ false
-within-scanned tables command.Begin rows = refl
+within-scanned tables (command.Begin checked) rows = refl
 within-scanned tables (command.Get table key) rows = refl
 within-scanned tables (command.Scan table) rows = refl
+within-scanned tables (command.Range table low high) rows = refl
+within-scanned tables (command.Total table column low high) rows = refl
 within-scanned tables (command.Insert table row) rows = refl
 within-scanned tables (command.Update table row) rows = refl
 within-scanned tables (command.Delete table key) rows = refl
@@ -168,7 +172,7 @@ module _ (tables : List TableDecl) (are : are_tables tables ≡ true) where
         let s = said-is line told is in
         let parts = and_parts (is_spoken due told) (answers tables (is_within due.who earlier) due.command told) can in
         let one = alone tables (is_within due.who earlier) due.command told parts.1 in
-        let r = answer-reply tables (is_within due.who earlier) due.command told parts.1 s.fits in
+        let r = answer-reply tables (is_within due.who earlier) due.command told are parts.1 s.fits in
         let read = reply-read tables earlier due told behind parts.0 (reply-back tables names (is_within due.who earlier) due.command told r.0 r.1) in
         ap (λ (l : List ℕ). reply_at tables earlier due l behind) (sym s.text ∙ one-text (reply_of told) one)
         ∙ ap (λ (more : List (List ℕ)). reply_at tables earlier due (first_line tables (reply_of told) ++ 10 ∷ []) (ended more ++ behind)) (sym one)

@@ -98,9 +98,10 @@ small-block (decl ∷ tables) zero block h is =
     lt-ltb block 4294967296 (omega (arith, most, few))
 small-block (decl ∷ tables) (suc table) block h is = small-block tables table block (and_parts (is_table decl) (list_all is_table tables) h).1 is
 
--- the command is no scan
+-- the command asks for no rows
 abbrev pub IsNoScan : Command → Type 0
 IsNoScan (command.Scan table) = ⊥
+IsNoScan (command.Range table low high) = ⊥
 IsNoScan _ = Unit {0}
 
 -- A table that passes a test is there.
@@ -112,6 +113,7 @@ fits-place (Some table) test h = refl
 pub command-listed : (tables : List TableDecl) (words behind : List (List ℕ)) → list_all is_table tables ≡ true → (asked : Command) → is_command tables asked ≡ true → IsNoScan asked → IsListed tables words behind asked
 command-listed tables words behind valid (command.Get table key) h scan = place-columns tables table valid (and_parts (is_table_place tables table) _ h).0
 command-listed tables words behind valid (command.Scan table) h scan = scan
+command-listed tables words behind valid (command.Range table low high) h scan = scan
 command-listed tables words behind valid (command.Update table row) h scan = fits-place (slice_get tables table) _ h
 command-listed tables words behind valid (command.Delete table key) h scan = (and_parts (is_table_place tables table) _ h).0
 command-listed tables words behind valid (command.Seal table block) h scan = (block-place (slice_get tables table) block h, small-block tables table block valid h)

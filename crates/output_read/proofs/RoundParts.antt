@@ -12,7 +12,7 @@ use Rattle.workload_spec.specs.declared.reply.Who.{Who}
 use Rattle.workload_spec.specs.declared.reply.Who.TheVariants.{Session, Worker}
 use Rattle.workload_spec.specs.declared.script.Line.{Line}
 use Rattle.workload_spec.specs.declared.script.Script.{Script}
-use Rattle.workload_spec.specs.Valid.{is_valid, has_head, is_within as is_within_range, is_table, have_own_names, is_line, is_command, all_lines, is_export, most_tables, most_sessions, most_workers, most_turns, has_version}
+use Rattle.workload_spec.specs.Valid.{is_valid, has_head, is_within as is_within_range, is_table, have_own_names, is_line, is_command, takes_command, all_lines, is_export, most_tables, most_sessions, most_workers, most_turns, has_version}
 use Rattle.outcome_spec.specs.Entries.{is_same}
 use Rattle.outcome_spec.specs.Forms.{Due, commands_of, dues_to, dues_in, dues_of, is_within, turn_of}
 use Rattle.reply_text.specs.Shown.{are_tables}
@@ -65,7 +65,8 @@ pub commands-valid : (script : Script) (lines : List Line) → list_all (is_line
 commands-valid script [] h = refl
 commands-valid script (line ∷ lines) h =
     let p = and_parts (is_line script line) (list_all (is_line script) lines) h in
-    and_from (is_command script.tables line.command) (list_all (λ l. is_command script.tables l.command) lines) (and_parts (is_within_range 1 script.sessions line.session) (is_command script.tables line.command) p.0).1 (commands-valid script lines p.1)
+    let q = and_parts (is_within_range 1 script.sessions line.session && is_command script.tables line.command) (takes_command script.version line.command) p.0 in
+    and_from (is_command script.tables line.command) (list_all (λ l. is_command script.tables l.command) lines) (and_parts (is_within_range 1 script.sessions line.session) (is_command script.tables line.command) q.0).1 (commands-valid script lines p.1)
 
 -- what is asked of tables and lines
 pub ask-tables : (script : Script) (reader : Reader) → is_valid script ≡ true → reader.tables.now ≡ script.tables → are_tables reader.tables.now ≡ true

@@ -9,6 +9,7 @@ use Rattle.cell_model.specs.declared.cell.Cell.{Cell}
 use Rattle.cell_model.specs.declared.column.Column.{Column}
 use Rattle.cell_model.specs.declared.table.TableDecl.{TableDecl}
 use Rattle.isolation_spec.specs.Contents.{key_of}
+use Rattle.workload_spec.specs.declared.command.Command.{Command}
 use Rattle.workload_spec.specs.declared.command.Command.TheVariants as command
 use Rattle.workload_spec.specs.declared.reply.Who.{Who}
 use Rattle.workload_spec.specs.declared.reply.Who.TheVariants.{Session}
@@ -16,11 +17,12 @@ use Rattle.workload_spec.specs.declared.reply.Said.{Said}
 use Rattle.workload_spec.specs.declared.reply.Said.TheVariants as said
 use Rattle.workload_spec.specs.ReplyText.{lines_behind, reply_lines, who_text, row_line}
 use Rattle.workload_spec.specs.Words.{line_feed, spaced}
+use Rattle.workload_spec.specs.Valid.{is_command, is_table_place, is_key_number}
 use Rattle.workload_laws.proofs.Apart.{is_whole, whole_append}
 use Rattle.outcome_spec.specs.Entries.{Entry, is_same}
 use Rattle.outcome_spec.specs.Reading.{words_in, row_at, rows_above, u64_at}
 use Rattle.outcome_spec.specs.Tables.{columns_at}
-use Rattle.outcome_spec.specs.Forms.{Due, begins_with, replies_due, reply_at, entry_behind, is_within, replies_within, lines_of_scan, lines_begun, scanned_by}
+use Rattle.outcome_spec.specs.Forms.{Due, begins_with, replies_due, reply_at, entry_behind, is_upkeep, is_within, replies_within, replies_without, scan_replies, lines_of_scan, lines_begun, scanned_by}
 use Rattle.reply_text.specs.Shown.{is_u32, is_u64, is_who, are_tables}
 use Rattle.reply_text.specs.Readers.{where_true, behind as behind_front, cut, Heading, head_in}
 use Rattle.reply_text.proofs.PieceLemmas.{step, where_is, gives, cut_is, cut_back, behind_is}
@@ -32,8 +34,10 @@ use Rattle.timeline_laws.proofs.Lines.{a-word, ended, first_line, lines-alone, I
 use Rattle.timeline_laws.proofs.ReadBack.{NamesPlain, reply-back}
 use Rattle.timeline_laws.proofs.ReadLines.{words_of_line}
 use Rattle.timeline_laws.proofs.ReadNumbers.{plain_decimal, u64_read, u64_small}
-use Rattle.timeline_laws.proofs.Stated.{RowsRise}
+use Rattle.timeline_spec.specs.Forms.{IsScanReply}
+use Rattle.timeline_laws.proofs.Stated.{RowsRise, ScannedFits}
 use Rattle.timeline_laws.proofs.Turns.{EachSaid, found-by}
+use Rattle.output_read.specs.Answers.{answers}
 use Rattle.output_read.specs.Fronts.{words_at, count_at}
 use Rattle.output_read.proofs.Fitting.{row_at_is}
 use Rattle.output_read.proofs.Keys.{absurdly, same-who, who-same, said_there, next, reply_of, IsNarrow, reads-own, begins-own, is-reply}
@@ -160,18 +164,32 @@ rejoined zero lines = refl
 rejoined (suc n) [] = refl
 rejoined (suc n) (line ∷ lines) = ap (λ (ls : List (List ℕ)). line ∷ ls) (rejoined n lines)
 
-module _ (tables : List TableDecl) (are : are_tables tables ≡ true) (names : NamesPlain tables) (earlier : List Entry) (round session table : ℕ) where
-  -- what is due of a session's scan of a table
-  abbrev pub scan_due : Due
-  scan_due = record { round = round; who = Session session; command = command.Scan table }
+-- a command that asks for rows of a table: what is due to it in a transaction
+pub record AsksRows (table : ℕ) (asked : Command) : Type 0 where
+  pub scanned : scanned_by true asked ≡ Some table
+  pub listed : (tables : List TableDecl) (words behind : List (List ℕ)) → replies_within tables words behind asked ≡ said.Memory ∷ scan_replies (columns_at tables table) words behind
+  pub read : (tables : List TableDecl) → NamesPlain tables → (told : Said) → IsScanReply told → ScannedFits (columns_at tables table) told → IsRead tables true asked told
+  pub memory : (tables : List TableDecl) → answers tables true asked said.Memory ≡ true
+  pub there : (tables : List TableDecl) → is_command tables asked ≡ true → is_table_place tables table ≡ true
 
-  -- The columns of the table that is scanned.
+-- a scan asks for rows of its table
+pub asks-scan : (table : ℕ) → AsksRows table (command.Scan table)
+asks-scan table = record { scanned = refl; listed = λ tables words behind. refl; read = λ tables names told is fit. reply-back tables names true (command.Scan table) told is fit; memory = λ tables. refl; there = λ tables is. is }
+
+-- and a range asks for rows of its
+pub asks-range : (table : ℕ) (low high : ℤ) → AsksRows table (command.Range table low high)
+asks-range table low high = record {
+  scanned = refl;
+  listed = λ tables words behind. refl;
+  read = λ tables names told is fit. reply-back tables names true (command.Range table low high) told is fit;
+  memory = λ tables. refl;
+  there = λ tables is. (and_parts (is_table_place tables table) (is_key_number low) (and_parts (is_table_place tables table && is_key_number low) (is_key_number high) is).0).0;
+}
+
+module _ (tables : List TableDecl) (are : are_tables tables ≡ true) (names : NamesPlain tables) (earlier : List Entry) (round session table : ℕ) where
+  -- The columns of the table of which rows are asked for.
   abbrev columns : List Column
   columns = columns_at tables table
-
-  -- The index of the session's next reply in the round.
-  abbrev there : ℕ
-  there = next tables are earlier scan_due
 
   -- the rows at the front of the lines behind, up to so many
   abbrev pub rows_of : ℕ → List (List ℕ) → List (List Cell)
@@ -185,108 +203,119 @@ module _ (tables : List TableDecl) (are : are_tables tables ≡ true) (names : N
   pub rows-few : (count : ℕ) (behind : List (List ℕ)) → length (rows_of count behind) ≤ count
   rows-few count behind = let a = (are-rows columns None (take count behind)).few in let b = most count behind in omega (arith, a, b)
 
-  module _ (within : is_within (Session session) earlier ≡ true) where
-    scan-read : (count : ℕ) (behind : List (List ℕ)) → count < 2 ^ 64 → IsRead tables true (command.Scan table) (scanned count behind)
-    scan-read count behind small =
-        let few = rows-few count behind in
-        reply-back tables names true (command.Scan table) (scanned count behind) (omega (arith, few, small)) (are-rows columns None (take count behind)).rise
+  module _ (asked : Command) (asks : AsksRows table asked) where
+    -- what is due of a session's scan of a table, or of a range of it
+    abbrev pub scan_due : Due
+    scan_due = record { round = round; who = Session session; command = asked }
 
-    scan-said : (count : ℕ) (behind : List (List ℕ)) → count < 2 ^ 64 → IsSaid tables (scanned count behind)
-    scan-said count behind small = (scan-read count behind small).is_said
+    -- The index of the session's next reply in the round.
+    abbrev there : ℕ
+    there = next tables are earlier scan_due
 
-    -- a scan whose rows are all there
-    pub scan-matches : (line : List ℕ) (behind : List (List ℕ)) (count : ℕ) → count_at round (Session session) there line ≡ Some count → length (rows_of count behind) ≡ count
-        → reply_at tables earlier scan_due line behind ≡ Some (entry_behind tables earlier scan_due (scanned count behind))
-    scan-matches line behind count is many =
-        let s = scan-is round there count (Session session) line is in
-        let small : count < 2 ^ 64 = ltb-true count (2 ^ 64) s.fits in
-        let a = are-rows columns None (take count behind) in
-        let split : behind ≡ ended (map row_line (rows_of count behind)) ++ (a.behind ++ drop count behind) =
-        sym (rejoined count behind) ∙ ap (λ (ls : List (List ℕ)). ls ++ drop count behind) a.lines ∙ append_assoc (ended (map row_line (rows_of count behind))) a.behind (drop count behind) in
-        let first : line ≡ first_line tables (reply_of tables are earlier scan_due (scanned count behind)) ++ 10 ∷ [] = s.text ∙ ap (λ (k : ℕ). scan_text round (Session session) there k) (sym many) in
-        ap (λ (l : List ℕ). reply_at tables earlier scan_due l behind) first
-        ∙ ap (reply_at tables earlier scan_due (first_line tables (reply_of tables are earlier scan_due (scanned count behind)) ++ 10 ∷ [])) split
-        ∙ reply-read tables earlier scan_due (scanned count behind) (a.behind ++ drop count behind) refl
-        (subst (λ (b : Bool). IsRead tables b (command.Scan table) (scanned count behind)) (sym within) (scan-read count behind small))
+    module _ (within : is_within (Session session) earlier ≡ true) where
+      scan-read : (count : ℕ) (behind : List (List ℕ)) → count < 2 ^ 64 → IsRead tables true asked (scanned count behind)
+      scan-read count behind small =
+          let few = rows-few count behind in
+          asks.read tables names (scanned count behind) (omega (arith, few, small)) (are-rows columns None (take count behind)).rise
 
-    -- what is due, and what of it is found
-    abbrev Listed : ℕ → List (List ℕ) → Said → Type 0
-    Listed count behind told = (told ≡ said.Memory) ⊎ (told ≡ scanned count behind)
+      scan-said : (count : ℕ) (behind : List (List ℕ)) → count < 2 ^ 64 → IsSaid tables (scanned count behind)
+      scan-said count behind small = (scan-read count behind small).is_said
 
-    due-list : (words behind : List (List ℕ)) → replies_due tables earlier scan_due words behind ≡ said.Memory ∷ scanned (u64_at words 1) behind ∷ []
-    due-list words behind = ap (λ (b : Bool). filter (is_spoken scan_due) (cond (b || false) (replies_within tables words behind (command.Scan table)) (said.NoTransaction ∷ []))) within
+      -- a scan whose rows are all there
+      pub scan-matches : (line : List ℕ) (behind : List (List ℕ)) (count : ℕ) → count_at round (Session session) there line ≡ Some count → length (rows_of count behind) ≡ count
+          → reply_at tables earlier scan_due line behind ≡ Some (entry_behind tables earlier scan_due (scanned count behind))
+      scan-matches line behind count is many =
+          let s = scan-is round there count (Session session) line is in
+          let small : count < 2 ^ 64 = ltb-true count (2 ^ 64) s.fits in
+          let a = are-rows columns None (take count behind) in
+          let split : behind ≡ ended (map row_line (rows_of count behind)) ++ (a.behind ++ drop count behind) =
+          sym (rejoined count behind) ∙ ap (λ (ls : List (List ℕ)). ls ++ drop count behind) a.lines ∙ append_assoc (ended (map row_line (rows_of count behind))) a.behind (drop count behind) in
+          let first : line ≡ first_line tables (reply_of tables are earlier scan_due (scanned count behind)) ++ 10 ∷ [] = s.text ∙ ap (λ (k : ℕ). scan_text round (Session session) there k) (sym many) in
+          ap (λ (l : List ℕ). reply_at tables earlier scan_due l behind) first
+          ∙ ap (reply_at tables earlier scan_due (first_line tables (reply_of tables are earlier scan_due (scanned count behind)) ++ 10 ∷ [])) split
+          ∙ reply-read tables earlier scan_due (scanned count behind) (a.behind ++ drop count behind) refl
+          (subst (λ (b : Bool). IsRead tables b asked (scanned count behind)) (sym within) (scan-read count behind small))
 
-    same-first : (line own : List ℕ) (behind others : List (List ℕ)) → starts_with bytes_eq (line ∷ behind) (own ∷ others) ≡ true → own ≡ line
-    same-first line own behind others h = (bytes_eq-Decides own line).0 (and_parts (bytes_eq own line) (starts_with bytes_eq behind others) h).0
+      -- what is due, and what of it is found
+      abbrev Listed : ℕ → List (List ℕ) → Said → Type 0
+      Listed count behind told = (told ≡ said.Memory) ⊎ (told ≡ scanned count behind)
 
-    -- the rows of what begins the lines are all that its first line says
-    rows-whole : is_u32 round ≡ true → is_who (Session session) ≡ true → is_u64 there ≡ true → (line : List ℕ) (behind : List (List ℕ))
-        → begins_with tables (line ∷ behind) (entry_behind tables earlier scan_due (scanned (u64_at (drop 3 (words_in line)) 1) behind)) ≡ true
-        → (count_at round (Session session) there line ≡ Some (u64_at (drop 3 (words_in line)) 1)) × (length (rows_of (u64_at (drop 3 (words_in line)) 1) behind) ≡ u64_at (drop 3 (words_in line)) 1)
-    rows-whole a b c line behind h =
-        let count = u64_at (drop 3 (words_in line)) 1 in
-        let small = u64_small (drop 3 (words_in line)) 1 in
-        let few = rows-few count behind in
-        let many = length (rows_of count behind) in
-        let fit : is_u64 many ≡ true = lt-ltb many (2 ^ 64) (omega (arith, few, small)) in
-        let reply = reply_of tables are earlier scan_due (scanned count behind) in
-        let own = first_line tables reply ++ 10 ∷ [] in
-        let said = scan-said count behind small in
-        let text : own ≡ line =
-        same-first line own behind (ended (lines_behind (scanned count behind)))
-        (sym (ap (starts_with bytes_eq (line ∷ behind)) (lines-alone (reply_lines tables reply) (reply-unbroken tables reply said))) ∙ h) in
-        let counted : many ≡ count = sym (scan-counts round there many (Session session) fit) ∙ ap (λ (l : List ℕ). u64_at (drop 3 (words_in l)) 1) text in
-        (ap (count_at round (Session session) there) (sym text) ∙ scan-back round there many (Session session) a b c fit ∙ ap Some counted, counted)
+      due-list : (words behind : List (List ℕ)) → replies_due tables earlier scan_due words behind ≡ said.Memory ∷ scanned (u64_at words 1) behind ∷ []
+      due-list words behind = ap (λ (b : Bool). filter (is_spoken scan_due) (cond (b || is_upkeep asked) (replies_within tables words behind asked) (replies_without words asked))) within
+          ∙ ap (filter (is_spoken scan_due)) (asks.listed tables words behind)
 
-    found-none : (line : List ℕ) (behind : List (List ℕ)) (o : Option Entry) → reply_at tables earlier scan_due line behind ≡ o → ((entry : Entry) → o ≡ Some entry → ⊥) → reply_at tables earlier scan_due line behind ≡ None
-    found-none line behind None is h = is
-    found-none line behind (Some entry) is h = absurd (h entry refl)
+      same-first : (line own : List ℕ) (behind others : List (List ℕ)) → starts_with bytes_eq (line ∷ behind) (own ∷ others) ≡ true → own ≡ line
+      same-first line own behind others h = (bytes_eq-Decides own line).0 (and_parts (bytes_eq own line) (starts_with bytes_eq behind others) h).0
 
-    -- no scan is there where its first line isn't, or rows lack, and memory is not refused
-    pub scan-misses : IsNarrow tables are earlier scan_due → (line : List ℕ) (behind : List (List ℕ))
-        → (said_there tables are earlier scan_due line ≡ Some said.Memory → ⊥)
-        → ((count : ℕ) → count_at round (Session session) there line ≡ Some count → length (rows_of count behind) ≡ count → ⊥)
-        → reply_at tables earlier scan_due line behind ≡ None
-    scan-misses narrow line behind no_memory no_rows = found-none line behind (reply_at tables earlier scan_due line behind) refl not-found
-      where
-        not-found : (entry : Entry) → reply_at tables earlier scan_due line behind ≡ Some entry → ⊥
-        not-found entry at =
-            let words = drop 3 (words_in line) in
-            let f = found-by (Listed (u64_at words 1) behind) (entry_behind tables earlier scan_due) (begins_with tables (line ∷ behind)) entry (replies_due tables earlier scan_due words behind)
-            (subst (EachSaid (Listed (u64_at words 1) behind)) (sym (due-list words behind)) (inl refl, (inr refl, tt))) at in
-            elim f.of [
-              | inl memory ↦ no_memory (reads-own tables are earlier scan_due line said.Memory (is-reply tables are earlier scan_due narrow said.Memory refl)
-                  (begins-own tables are earlier scan_due line behind said.Memory refl refl (subst (λ (s : Said). begins_with tables (line ∷ behind) (entry_behind tables earlier scan_due s) ≡ true) memory f.passes)))
-              | inr rows ↦ let whole = rows-whole narrow.round narrow.who narrow.index line behind (subst (λ (s : Said). begins_with tables (line ∷ behind) (entry_behind tables earlier scan_due s) ≡ true) rows f.passes) in
-                  no_rows (u64_at words 1) whole.0 whole.1
-            ]
+      -- the rows of what begins the lines are all that its first line says
+      rows-whole : is_u32 round ≡ true → is_who (Session session) ≡ true → is_u64 there ≡ true → (line : List ℕ) (behind : List (List ℕ))
+          → begins_with tables (line ∷ behind) (entry_behind tables earlier scan_due (scanned (u64_at (drop 3 (words_in line)) 1) behind)) ≡ true
+          → (count_at round (Session session) there line ≡ Some (u64_at (drop 3 (words_in line)) 1)) × (length (rows_of (u64_at (drop 3 (words_in line)) 1) behind) ≡ u64_at (drop 3 (words_in line)) 1)
+      rows-whole a b c line behind h =
+          let count = u64_at (drop 3 (words_in line)) 1 in
+          let small = u64_small (drop 3 (words_in line)) 1 in
+          let few = rows-few count behind in
+          let many = length (rows_of count behind) in
+          let fit : is_u64 many ≡ true = lt-ltb many (2 ^ 64) (omega (arith, few, small)) in
+          let reply = reply_of tables are earlier scan_due (scanned count behind) in
+          let own = first_line tables reply ++ 10 ∷ [] in
+          let said = scan-said count behind small in
+          let text : own ≡ line =
+          same-first line own behind (ended (lines_behind (scanned count behind)))
+          (sym (ap (starts_with bytes_eq (line ∷ behind)) (lines-alone (reply_lines tables reply) (reply-unbroken tables reply said))) ∙ h) in
+          let counted : many ≡ count = sym (scan-counts round there many (Session session) fit) ∙ ap (λ (l : List ℕ). u64_at (drop 3 (words_in l)) 1) text in
+          (ap (count_at round (Session session) there) (sym text) ∙ scan-back round there many (Session session) a b c fit ∙ ap Some counted, counted)
 
-    -- ---- how much of it is there
+      found-none : (line : List ℕ) (behind : List (List ℕ)) (o : Option Entry) → reply_at tables earlier scan_due line behind ≡ o → ((entry : Entry) → o ≡ Some entry → ⊥) → reply_at tables earlier scan_due line behind ≡ None
+      found-none line behind None is h = is
+      found-none line behind (Some entry) is h = absurd (h entry refl)
 
-    begun-by : (line : List ℕ) (behind : List (List ℕ)) → lines_begun tables earlier scan_due line behind ≡ lines_of_scan tables (reply_of tables are earlier scan_due said.Memory) line behind table
-    begun-by line behind = ap (λ (b : Bool). option_map_or (lines_of_scan tables (reply_of tables are earlier scan_due said.Memory) line behind) (scanned_by b (command.Scan table)) 0) within
+      -- no scan is there where its first line isn't, or rows lack, and memory is not refused
+      pub scan-misses : IsNarrow tables are earlier scan_due → (line : List ℕ) (behind : List (List ℕ))
+          → (said_there tables are earlier scan_due line ≡ Some said.Memory → ⊥)
+          → ((count : ℕ) → count_at round (Session session) there line ≡ Some count → length (rows_of count behind) ≡ count → ⊥)
+          → reply_at tables earlier scan_due line behind ≡ None
+      scan-misses narrow line behind no_memory no_rows = found-none line behind (reply_at tables earlier scan_due line behind) refl not-found
+        where
+          not-found : (entry : Entry) → reply_at tables earlier scan_due line behind ≡ Some entry → ⊥
+          not-found entry at =
+              let words = drop 3 (words_in line) in
+              let f = found-by (Listed (u64_at words 1) behind) (entry_behind tables earlier scan_due) (begins_with tables (line ∷ behind)) entry (replies_due tables earlier scan_due words behind)
+              (subst (EachSaid (Listed (u64_at words 1) behind)) (sym (due-list words behind)) (inl refl, (inr refl, tt))) at in
+              elim f.of [
+                | inl memory ↦ no_memory (reads-own tables are earlier scan_due line said.Memory (is-reply tables are earlier scan_due narrow said.Memory refl)
+                    (begins-own tables are earlier scan_due line behind said.Memory refl refl (subst (λ (s : Said). begins_with tables (line ∷ behind) (entry_behind tables earlier scan_due s) ≡ true) memory f.passes)))
+                | inr rows ↦ let whole = rows-whole narrow.round narrow.who narrow.index line behind (subst (λ (s : Said). begins_with tables (line ∷ behind) (entry_behind tables earlier scan_due s) ≡ true) rows f.passes) in
+                    no_rows (u64_at words 1) whole.0 whole.1
+              ]
 
-    -- the rows that are there, behind the first line
-    pub scan-begun : (line : List ℕ) (behind : List (List ℕ)) (count : ℕ) → count_at round (Session session) there line ≡ Some count
-        → lines_begun tables earlier scan_due line behind ≡ 1 + length (rows_of count behind)
-    scan-begun line behind count is =
-        let s = scan-is round there count (Session session) line is in
-        let counted : u64_at (drop 3 (words_in line)) 1 ≡ count = ap (λ (l : List ℕ). u64_at (drop 3 (words_in l)) 1) s.text ∙ scan-counts round there count (Session session) s.fits in
-        let first : bytes_eq line (scan_text round (Session session) there count) ≡ true = (bytes_eq-Decides line (scan_text round (Session session) there count)).1 s.text in
-        begun-by line behind
-        ∙ ap (λ (k : ℕ). if bytes_eq line (scan_text round (Session session) there k) then 1 + length (rows_of k behind) else 0) counted
-        ∙ ap (λ (b : Bool). if b then 1 + length (rows_of count behind) else 0) first
+      -- ---- how much of it is there
 
-    unbegun : (line : List ℕ) (behind : List (List ℕ)) (count : ℕ) (b : Bool) → bytes_eq line (scan_text round (Session session) there count) ≡ b
-        → (line ≡ scan_text round (Session session) there count → ⊥) → (if b then 1 + length (rows_of count behind) else 0) ≡ 0
-    unbegun line behind count true is h = absurd (h ((bytes_eq-Decides line (scan_text round (Session session) there count)).0 is))
-    unbegun line behind count false is h = refl
+      begun-by : (line : List ℕ) (behind : List (List ℕ)) → lines_begun tables earlier scan_due line behind ≡ lines_of_scan tables (reply_of tables are earlier scan_due said.Memory) line behind table
+      begun-by line behind = ap (λ (b : Bool). option_map_or (lines_of_scan tables (reply_of tables are earlier scan_due said.Memory) line behind) (scanned_by b asked) 0) within
+          ∙ ap (λ (o : Option ℕ). option_map_or (lines_of_scan tables (reply_of tables are earlier scan_due said.Memory) line behind) o 0) asks.scanned
 
-    -- none of it, where the line is not a scan's first
-    pub scan-unbegun : IsNarrow tables are earlier scan_due → (line : List ℕ) (behind : List (List ℕ)) → count_at round (Session session) there line ≡ None → lines_begun tables earlier scan_due line behind ≡ 0
-    scan-unbegun narrow line behind none =
-        let count = u64_at (drop 3 (words_in line)) 1 in
-        let fit : is_u64 count ≡ true = lt-ltb count (2 ^ 64) (u64_small (drop 3 (words_in line)) 1) in
-        begun-by line behind
-        ∙ unbegun line behind count (bytes_eq line (scan_text round (Session session) there count)) refl
-        (λ same. absurdly (sym (scan-back round there count (Session session) narrow.round narrow.who narrow.index fit) ∙ ap (count_at round (Session session) there) (sym same) ∙ none))
+      -- the rows that are there, behind the first line
+      pub scan-begun : (line : List ℕ) (behind : List (List ℕ)) (count : ℕ) → count_at round (Session session) there line ≡ Some count
+          → lines_begun tables earlier scan_due line behind ≡ 1 + length (rows_of count behind)
+      scan-begun line behind count is =
+          let s = scan-is round there count (Session session) line is in
+          let counted : u64_at (drop 3 (words_in line)) 1 ≡ count = ap (λ (l : List ℕ). u64_at (drop 3 (words_in l)) 1) s.text ∙ scan-counts round there count (Session session) s.fits in
+          let first : bytes_eq line (scan_text round (Session session) there count) ≡ true = (bytes_eq-Decides line (scan_text round (Session session) there count)).1 s.text in
+          begun-by line behind
+          ∙ ap (λ (k : ℕ). if bytes_eq line (scan_text round (Session session) there k) then 1 + length (rows_of k behind) else 0) counted
+          ∙ ap (λ (b : Bool). if b then 1 + length (rows_of count behind) else 0) first
+
+      unbegun : (line : List ℕ) (behind : List (List ℕ)) (count : ℕ) (b : Bool) → bytes_eq line (scan_text round (Session session) there count) ≡ b
+          → (line ≡ scan_text round (Session session) there count → ⊥) → (if b then 1 + length (rows_of count behind) else 0) ≡ 0
+      unbegun line behind count true is h = absurd (h ((bytes_eq-Decides line (scan_text round (Session session) there count)).0 is))
+      unbegun line behind count false is h = refl
+
+      -- none of it, where the line is not a scan's first
+      pub scan-unbegun : IsNarrow tables are earlier scan_due → (line : List ℕ) (behind : List (List ℕ)) → count_at round (Session session) there line ≡ None → lines_begun tables earlier scan_due line behind ≡ 0
+      scan-unbegun narrow line behind none =
+          let count = u64_at (drop 3 (words_in line)) 1 in
+          let fit : is_u64 count ≡ true = lt-ltb count (2 ^ 64) (u64_small (drop 3 (words_in line)) 1) in
+          begun-by line behind
+          ∙ unbegun line behind count (bytes_eq line (scan_text round (Session session) there count)) refl
+          (λ same. absurdly (sym (scan-back round there count (Session session) narrow.round narrow.who narrow.index fit) ∙ ap (count_at round (Session session) there) (sym same) ∙ none))

@@ -52,7 +52,7 @@ use Rattle.output_read.specs.Readers.{IsReading, FailsAt, read_by, lines_left, i
 use Rattle.output_read.specs.Threads.{IsThread, NoCount, ThreadGoes, session_due}
 use Rattle.output_read.proofs.Fitting.{never}
 use Rattle.output_read.proofs.Keys.{absurdly, who-same, said_there, may, next, IsNarrow, matches, misses, alone}
-use Rattle.output_read.proofs.Scans.{scan-misses, scan-unbegun, scan-matches, scan-begun, rows_of}
+use Rattle.output_read.proofs.Scans.{AsksRows, asks-scan, asks-range, scan-misses, scan-unbegun, scan-matches, scan-begun, rows_of}
 use Rattle.output_read.proofs.Names.{names-plain, tables-valid, command-listed, IsNoScan}
 use Rattle.output_read.proofs.Keeping.{Kept, read-more, still-reading, passes, fails-anew, fails-at, fails-end, next-index, within-more, index-few}
 
@@ -70,10 +70,12 @@ pub line-of : (T : List TableDecl) (round : ℕ) (who : Who) (index : ℕ) (line
 line-of T round who index [] told h = absurd (absurdly h)
 line-of T round who index (line ∷ behind) told h = record { line = line; behind = behind; is = refl; says = sym h }
 
--- a command that scans no table in a transaction
+-- a command that asks for no rows in a transaction
 no-scan : (within : Bool) (asked : Command) → scanned_by within asked ≡ None → (within || is_upkeep asked) ≡ true → IsNoScan asked
 no-scan true (command.Scan table) h up = absurd (absurdly h)
 no-scan false (command.Scan table) h up = absurd (never up)
+no-scan true (command.Range table low high) h up = absurd (absurdly h)
+no-scan false (command.Range table low high) h up = absurd (never up)
 no-scan within _ h up = tt
 
 -- a line that says how many rows follow it
@@ -94,15 +96,17 @@ columns-is [] table d h = absurd (never h)
 columns-is (decl ∷ T) Rattle.std.proofs.Common.zero d h = refl
 columns-is (decl ∷ T) (Rattle.std.proofs.Common.suc table) d h = columns-is T table d h
 
--- a command that scans one
+-- a command that asks for rows of a table
 pub record Scans (within : Bool) (asked : Command) (table : ℕ) : Type 0 where
   pub is_within : within ≡ true
-  pub is_scan : asked ≡ command.Scan table
+  pub asks : AsksRows table asked
 
--- a table is scanned only by a scan in a transaction
+-- rows are asked for only by a scan or a range in a transaction
 pub scans : (within : Bool) (asked : Command) (table : ℕ) → scanned_by within asked ≡ Some table → Scans within asked table
-scans true (command.Scan of) table h = record { is_within = refl; is_scan = ap command.Scan (same_Some of table h) }
+scans true (command.Scan of) table h = record { is_within = refl; asks = subst (λ (t : ℕ). AsksRows t (command.Scan of)) (same_Some of table h) (asks-scan of) }
 scans false (command.Scan of) table h = absurd (absurdly (sym h))
+scans true (command.Range of low high) table h = record { is_within = refl; asks = subst (λ (t : ℕ). AsksRows t (command.Range of low high)) (same_Some of table h) (asks-range of low high) }
+scans false (command.Range of low high) table h = absurd (absurdly (sym h))
 scans within _ table h = absurd (absurdly (sym h))
 
 module _ (old : Reader) (thread : Thread) (asked : Command) (are : are_tables old.tables.now ≡ true) (reading : IsReading old) (is_thread : IsThread thread (read_by old)) (valid : is_command old.tables.now asked ≡ true) where
@@ -241,14 +245,13 @@ module _ (old : Reader) (thread : Thread) (asked : Command) (are : are_tables ol
       by (Some table) is c =
           let s = scans thread.within asked table is in
           let within : is_within who E ≡ true = sym is_thread.within ∙ s.is_within in
-          let count : count_at thread.round who (next T are E (session_due thread (command.Scan table))) line ≡ None = ap (λ (n : ℕ). count_at thread.round who n line) (sym is_thread.index) ∙ c in
-          let d = session_due thread (command.Scan table) in
-          let at : reply_at T E d line behind ≡ None =
-          scan-misses T are plain E thread.round thread.session table within (narrow-of (command.Scan table)) line behind
-          (λ memory. none said.Memory (sym (ap (λ (n : ℕ). said_at T thread.round who n line) is_thread.index ∙ memory)) (ap (λ (b : Bool). answers T b asked said.Memory) s.is_within ∙ ap (λ (a : Command). answers T true a said.Memory) s.is_scan))
+          let count : count_at thread.round who (next T are E due) line ≡ None = ap (λ (n : ℕ). count_at thread.round who n line) (sym is_thread.index) ∙ c in
+          let at : reply_at T E due line behind ≡ None =
+          scan-misses T are plain E thread.round thread.session table asked s.asks within (narrow-of asked) line behind
+          (λ memory. none said.Memory (sym (ap (λ (n : ℕ). said_at T thread.round who n line) is_thread.index ∙ memory)) (ap (λ (b : Bool). answers T b asked said.Memory) s.is_within ∙ s.asks.memory T))
           (λ n counted many. absurdly (sym counted ∙ count)) in
-          let begun : lines_begun T E d line behind ≡ 0 = scan-unbegun T are plain E thread.round thread.session table within (narrow-of (command.Scan table)) line behind count in
-          zero-fails (subst (λ (a : Command). FailsAt old (session_due thread a ∷ []) (old.line + 0)) (sym s.is_scan) (λ rest anew. fails-at old d line behind 0 reading refl front at begun rest))
+          let begun : lines_begun T E due line behind ≡ 0 = scan-unbegun T are plain E thread.round thread.session table asked s.asks within (narrow-of asked) line behind count in
+          zero-fails (λ rest anew. fails-at old due line behind 0 reading refl front at begun rest)
 
   -- nothing is said
   pub nothing-fails : None ≡ said_first T thread.round who heading (lines_left old) → NoCount (scanned_by thread.within asked) (count_first thread.round who heading (lines_left old)) → FailsAt old (due ∷ []) old.line
@@ -283,10 +286,7 @@ module _ (old : Reader) (thread : Thread) (asked : Command) (are : are_tables ol
   -- ---- a scan
 
   module _ (table : ℕ) (scan : scanned_by thread.within asked ≡ Some table) (columns : List Column) (columns_is : columns_at T table ≡ columns) where
-    abbrev scan_due : Due
-    scan_due = session_due thread (command.Scan table)
-
-    -- the command is a scan of the table, in a transaction
+    -- the command asks for rows of the table, in a transaction
     pub its_scan : Scans thread.within asked table
     its_scan = scans thread.within asked table scan
 
@@ -295,7 +295,7 @@ module _ (old : Reader) (thread : Thread) (asked : Command) (are : are_tables ol
 
     -- the table that is scanned is one of the tables
     pub table-there : is_table_place T table ≡ true
-    table-there = subst (λ (a : Command). is_command T a ≡ true) (its_scan).is_scan valid
+    table-there = (its_scan).asks.there T valid
 
     -- a table that is scanned has columns
     pub columns-some : 0 < length columns
@@ -331,20 +331,20 @@ module _ (old : Reader) (thread : Thread) (asked : Command) (are : are_tables ol
       abbrev rows_there : List (List Cell)
       rows_there = rows_of T are plain E thread.round thread.session table count behind
 
-      counted-there : count_at thread.round who (next T are E scan_due) line ≡ Some count
+      counted-there : count_at thread.round who (next T are E due) line ≡ Some count
       counted-there = ap (λ (n : ℕ). count_at thread.round who n line) (sym is_thread.index) ∙ counts
 
       -- no memory is refused in such a line
-      no-memory : said_there T are E scan_due line ≡ Some said.Memory → ⊥
+      no-memory : said_there T are E due line ≡ Some said.Memory → ⊥
       no-memory h =
-          let s = scan-is thread.round (next T are E scan_due) count who line counted-there in
-          let x = spaced (scan_words thread.round who (next T are E scan_due) count) in
-          let whole = scan-whole thread.round (next T are E scan_due) count who in
-          step (words_at thread.round who (next T are E scan_due) line) _ count counted-there (λ words at e.
+          let s = scan-is thread.round (next T are E due) count who line counted-there in
+          let x = spaced (scan_words thread.round who (next T are E due) count) in
+          let whole = scan-whole thread.round (next T are E due) count who in
+          step (words_at thread.round who (next T are E due) line) _ count counted-there (λ words at e.
           step (behind_front (codes "rows ") words) _ count e (λ word rows_at e2.
-          let words_is : words_behind thread.round who (next T are E scan_due) x ≡ Some words = sym (words-line thread.round who (next T are E scan_due) x whole) ∙ ap (words_at thread.round who (next T are E scan_due)) (sym s.text) ∙ at in
+          let words_is : words_behind thread.round who (next T are E due) x ≡ Some words = sym (words-line thread.round who (next T are E due) x whole) ∙ ap (words_at thread.round who (next T are E due)) (sym s.text) ∙ at in
           let told : told_in T words [] ≡ Some said.Memory =
-          sym (ap (λ (o : Option (List ℕ)). o >>= λ ws. told_in T ws []) words_is) ∙ sym (said-line thread.round who (next T are E scan_due) T x whole) ∙ ap (said_at T thread.round who (next T are E scan_due)) (sym s.text) ∙ h in
+          sym (ap (λ (o : Option (List ℕ)). o >>= λ ws. told_in T ws []) words_is) ∙ sym (said-line thread.round who (next T are E due) T x whole) ∙ ap (said_at T thread.round who (next T are E due)) (sym s.text) ∙ h in
           let scanned : scanned_in word [] ≡ Some said.Memory =
           sym (ap (λ (o : Option (List ℕ)). elim o as (λ y. Option Said) [ Some w ↦ scanned_in w [] | None ↦ Rattle.reply_text.specs.Readers.said_in T words ]) rows_at) ∙ told in
           step (u64_in word) _ said.Memory scanned (λ n counted f1.
@@ -364,29 +364,26 @@ module _ (old : Reader) (thread : Thread) (asked : Command) (are : are_tables ol
         pub rows-most : many ≤ count
         rows-most = let a = rows-few T are plain E thread.round thread.session table count behind in let b = rows-many in omega (arith, a, b)
 
-        as_scan : {n : ℕ} → FailsAt old (scan_due ∷ []) n → FailsAt old (due ∷ []) n
-        as_scan {n} h = subst (λ (a : Command). FailsAt old (session_due thread a ∷ []) n) (sym (its_scan).is_scan) h
-
         -- rows lack
         pub scan-lacks : many < count → FailsAt old (due ∷ []) (old.line + 1 + many)
         scan-lacks few =
-            let at : reply_at T E scan_due line behind ≡ None =
-            scan-misses T are plain E thread.round thread.session table in_transaction (narrow-of (command.Scan table)) line behind no-memory
+            let at : reply_at T E due line behind ≡ None =
+            scan-misses T are plain E thread.round thread.session table asked (its_scan).asks in_transaction (narrow-of asked) line behind no-memory
             (λ n is whole.
             let same : count ≡ n = same_Some count n (sym counted-there ∙ is) in
             let short : length (rows_of T are plain E thread.round thread.session table n behind) ≡ many = ap (λ (m : ℕ). length (rows_of T are plain E thread.round thread.session table m behind)) (sym same) ∙ rows-many in
             omega (arith, whole, same, short, few)) in
-            let begun : lines_begun T E scan_due line behind ≡ 1 + many =
-            scan-begun T are plain E thread.round thread.session table in_transaction line behind count counted-there ∙ ap (λ (n : ℕ). 1 + n) rows-many in
-            as_scan (λ dues anew. fails-at old scan_due line behind (1 + many) reading refl front at begun dues ∙ ap Err (let e : old.line + (1 + many) ≡ old.line + 1 + many = omega arith in e))
+            let begun : lines_begun T E due line behind ≡ 1 + many =
+            scan-begun T are plain E thread.round thread.session table asked (its_scan).asks in_transaction line behind count counted-there ∙ ap (λ (n : ℕ). 1 + n) rows-many in
+            λ dues anew. fails-at old due line behind (1 + many) reading refl front at begun dues ∙ ap Err (let e : old.line + (1 + many) ≡ old.line + 1 + many = omega arith in e)
 
         -- all are there
         module _ (full : many ≡ count) where
           abbrev its_said : Said
           its_said = said.Scanned rows_there
 
-          scan-at : reply_at T E scan_due line behind ≡ Some (entry_behind T E scan_due its_said)
-          scan-at = scan-matches T are plain E thread.round thread.session table in_transaction line behind count counted-there (rows-many ∙ full)
+          scan-at : reply_at T E due line behind ≡ Some (entry_behind T E due its_said)
+          scan-at = scan-matches T are plain E thread.round thread.session table asked (its_scan).asks in_transaction line behind count counted-there (rows-many ∙ full)
 
           rows-text : Rattle.reply_text.specs.Readers.rows_in (parts 10 (lines_text (map row_line above.rows))) ≡ Some above.rows
           rows-text = lines_back above.rows (rows-fit above.rows above.fit)
@@ -410,7 +407,7 @@ module _ (old : Reader) (thread : Thread) (asked : Command) (are : are_tables ol
               ap (λ (t : List ℕ). take n t) above.text
               ∙ front-taken (lines_text (map row_line above.rows)) rest n (is ∙ ap (λ (t : List ℕ). length t - length rest) above.text)
 
-          lines-count : line_count T (entry_behind T E scan_due its_said) ≡ 1 + count
+          lines-count : line_count T (entry_behind T E due its_said) ≡ 1 + count
           lines-count = let a = length-map rows_there row_line in let b = rows-many in
               let e : Rattle.std.proofs.Common.suc (length (map row_line rows_there)) ≡ 1 + count = omega (arith, a, b, full) in e
 
@@ -449,11 +446,10 @@ module _ (old : Reader) (thread : Thread) (asked : Command) (are : are_tables ol
                 shorter = let a = ap (λ (t : List ℕ). length t) rest_is in let b = rest-short few in omega (arith, a, b);
                 some = omega arith;
               } in
-              let same : asked ≡ command.Scan table = (its_scan).is_scan in
               let told_same : kept.told ≡ told = ap (λ (r : KeptReply). r.told) kept_is in
               let entry = kept-entry kept its_said (kept_is ∙ ap (λ (t : Told). record { number = old.line; command = kept.command; round = thread.round; who = who; index = heading; told = t }) (sym told_same)) command_is (ap said_of told_same ∙ said_is) in
               goes new kept (1 + count) k its_said (ap is_told told_same ∙ told_ok) entry
-              (ap (λ (a : Command). line_count T (entry_behind T E (session_due thread a) its_said)) same ∙ lines-count)
+              lines-count
               line behind front
-              (subst (λ (a : Command). reply_at T E (session_due thread a) line behind ≡ Some (entry_behind T E (session_due thread a) its_said)) (sym same) scan-at)
+              scan-at
               thread.within refl

@@ -28,6 +28,12 @@ abbrev pub answers_scan : Said → Bool
 answers_scan said.Memory = true
 answers_scan _ = false
 
+-- how many numbers, and their sum
+abbrev pub answers_total : Said → Bool
+answers_total (said.Totalled count sum) = true
+answers_total said.Memory = true
+answers_total _ = false
+
 abbrev pub answers_insert : Said → Bool
 answers_insert said.Accepted = true
 answers_insert said.Exists = true
@@ -48,6 +54,7 @@ answers_change table _ = false
 
 abbrev pub answers_commit : Said → Bool
 answers_commit (said.Committed number) = true
+answers_commit (said.Stale read number) = true
 answers_commit _ = false
 
 abbrev pub answers_abort : Said → Bool
@@ -86,9 +93,11 @@ answers_export _ = false
 
 -- in a transaction, and to upkeep
 abbrev pub answers_within : List TableDecl → Command → Said → Bool
-answers_within tables command.Begin told = answers_begin told
+answers_within tables (command.Begin checked) told = answers_begin told
 answers_within tables (command.Get table key) told = answers_get (columns_at tables table) key told
 answers_within tables (command.Scan table) told = answers_scan told
+answers_within tables (command.Range table low high) told = answers_scan told
+answers_within tables (command.Total table column low high) told = answers_total told
 answers_within tables (command.Insert table row) told = answers_insert told
 answers_within tables (command.Update table row) told = answers_change table told
 answers_within tables (command.Delete table key) told = answers_change table told
@@ -111,9 +120,11 @@ is_without _ = false
 
 -- without a transaction
 abbrev pub answers_without : Command → Said → Bool
-answers_without command.Begin told = is_opening told
+answers_without (command.Begin checked) told = is_opening told
 answers_without (command.Get table key) told = is_without told
 answers_without (command.Scan table) told = is_without told
+answers_without (command.Range table low high) told = is_without told
+answers_without (command.Total table column low high) told = is_without told
 answers_without (command.Insert table row) told = is_without told
 answers_without (command.Update table row) told = is_without told
 answers_without (command.Delete table key) told = is_without told

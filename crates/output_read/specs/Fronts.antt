@@ -60,11 +60,13 @@ abbrev pub is_single : Said → Bool
 is_single (said.Scanned rows) = false
 is_single _ = true
 
--- what it says has no row, and tells of no export
+-- what it says has no row, and tells of no export, total or stale read
 abbrev pub is_plain : Said → Bool
 is_plain (said.Found row) = false
 is_plain (said.Scanned rows) = false
 is_plain (said.Exported number rows batches frozen) = false
+is_plain (said.Totalled count sum) = false
+is_plain (said.Stale read number) = false
 is_plain _ = true
 
 -- it says something of a block

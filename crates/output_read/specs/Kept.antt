@@ -22,6 +22,7 @@ said_of (told.Found words) = said.Found (unwrap_or (row_in words.now) [])
 said_of told.Absent = said.Absent
 said_of (told.Scanned count lines) = said.Scanned
     (unwrap_or (rows_in (parts line_feed lines.now)) [])
+said_of (told.Totalled total) = said.Totalled total.value.count total.value.sum
 said_of told.Accepted = said.Accepted
 said_of (told.ConflictSession session) = said.ConflictSession session
 said_of (told.ConflictCommit number) = said.ConflictCommit number
@@ -30,6 +31,7 @@ said_of told.Missing = said.Missing
 said_of told.Full = said.Full
 said_of (told.Freezing table block stamp) = said.Freezing table block stamp
 said_of (told.Committed number) = said.Committed number
+said_of (told.Stale stale) = said.Stale stale.value.read stale.value.number
 said_of told.Aborted = said.Aborted
 said_of (told.Cooling count) = said.Cooling count
 said_of (told.Pruned count) = said.Pruned count

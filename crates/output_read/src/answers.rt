@@ -43,14 +43,15 @@ fn answers_within(tables: &[TableDecl], command: &Command, said: &Said) -> bool
     ensures { result ≡ answers_within tables.now command.now said.now }
 {
     match command {
-        Command::Begin => matches!(said, Said::InTransaction),
+        Command::Begin { .. } => matches!(said, Said::InTransaction),
         Command::Get { table, key } => answers_get(tables, *table, *key, said),
-        Command::Scan { .. } => matches!(said, Said::Memory),
+        Command::Scan { .. } | Command::Range { .. } => matches!(said, Said::Memory),
+        Command::Total { .. } => matches!(said, Said::Totalled { .. } | Said::Memory),
         Command::Insert { .. } => answers_insert(said),
         Command::Update { table, .. } | Command::Delete { table, .. } => {
             answers_change(*table, said)
         }
-        Command::Commit => matches!(said, Said::Committed(_)),
+        Command::Commit => matches!(said, Said::Committed(_) | Said::Stale { .. }),
         Command::Abort => matches!(said, Said::Aborted),
         Command::Observe => matches!(said, Said::Cooling(_)),
         Command::Prune => matches!(said, Said::Pruned(_)),
@@ -68,7 +69,7 @@ fn answers_without(command: &Command, said: &Said) -> bool
     ensures { result ≡ answers_without command.now said.now }
 {
     match command {
-        Command::Begin => matches!(said, Said::At(_)),
+        Command::Begin { .. } => matches!(said, Said::At(_)),
         _ => matches!(said, Said::NoTransaction),
     }
 }

@@ -1,5 +1,5 @@
 //! Replies that were read, compact: their rows stay in the text.
-use workload_spec::{Command, SealCause, Who};
+use workload_spec::{Command, SealCause, StaleRead, Who};
 
 /// What is told of an export: the snapshot, the rows, the batches, and how many of these are images
 /// of frozen blocks.
@@ -9,6 +9,20 @@ pub struct Exported {
     pub rows: u64,
     pub batches: u32,
     pub frozen: u32,
+}
+
+/// What is told of a commit over a stale read: the read, and the last commit that wrote it.
+#[derive(Clone, Copy, Debug, Drop)]
+pub struct Stale {
+    pub read: StaleRead,
+    pub number: u64,
+}
+
+/// What is told of a total: how many numbers, and their sum.
+#[derive(Clone, Copy, Debug, Drop)]
+pub struct Totalled {
+    pub count: u64,
+    pub sum: i128,
 }
 
 /// What a reply says. The variants that a reply of a workload has too say the same; what would make
@@ -21,8 +35,10 @@ pub enum Told<'a> {
     /// The row of the key: the words of its cells, one space between each two.
     Found(&'a [u8]),
     Absent,
-    /// The rows of a table: how many, and the lines behind the first, each with its end.
+    /// The rows of a table or of a range: how many, and the lines behind the first, each with its
+    /// end.
     Scanned { count: u32, lines: &'a [u8] },
+    Totalled(Box<Totalled>),
     Accepted,
     ConflictSession(u32),
     ConflictCommit(u64),
@@ -31,6 +47,7 @@ pub enum Told<'a> {
     Full,
     Freezing { table: u32, block: u32, stamp: u32 },
     Committed(Option<u64>),
+    Stale(Box<Stale>),
     Aborted,
     Cooling(u64),
     Pruned(u64),

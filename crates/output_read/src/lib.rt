@@ -13,6 +13,6 @@ mod workers;
 
 pub use answers::key_of;
 pub use fault::ReadFault;
-pub use kept::{Exported, KeptReply, Told};
+pub use kept::{Exported, KeptReply, Stale, Told, Totalled};
 pub use rounds::read_output;
 pub use turns::blocks_at;

@@ -7,7 +7,7 @@ ghost use Rattle.output_read.specs.Fronts.{IsSaidBy, count_first, is_of_block, i
 ghost use Rattle.output_read.specs.Fronts.{said_first, words_behind, words_first};
 ghost use Rattle.output_read.specs.Kept.{is_told, said_of};
 
-use crate::kept::{Exported, KeptReply, Told};
+use crate::kept::{Exported, KeptReply, Stale, Told, Totalled};
 use cell_model::TableDecl;
 use reply_text::{behind, head_in, told_in};
 use std::alloc::{AllocError, Global};
@@ -160,7 +160,7 @@ fn block_told<'a>(said: &Said) -> Told<'a>
     }
 }
 
-/// What is kept of a reply that has no row, and tells of no export.
+/// What is kept of a reply that has no row, and tells of no export, total or stale read.
 fn plain_told<'a>(said: &Said) -> Told<'a>
     requires { is_plain said.now ≡ true }
     ensures said { said_of result ≡ said.now }
@@ -212,6 +212,20 @@ pub fn told_of<'a>(alloc: Global, said: &Said, words: &'a [u8]) -> Result<Told<'
                 frozen: *frozen,
             };
             Ok(Told::Exported(Box::new(alloc, told)?))
+        }
+        Said::Stale { read, number } => {
+            let told = Stale {
+                read: *read,
+                number: *number,
+            };
+            Ok(Told::Stale(Box::new(alloc, told)?))
+        }
+        Said::Totalled { count, sum } => {
+            let told = Totalled {
+                count: *count,
+                sum: *sum,
+            };
+            Ok(Told::Totalled(Box::new(alloc, told)?))
         }
         _ => Ok(plain_told(said)),
     }

@@ -29,12 +29,12 @@ pub struct Thread {
     pub within: bool,
 }
 
-/// The table that the command scans in a transaction.
+/// The table of which the command asks for rows in a transaction.
 fn scanned_by(within: bool, command: &Command) -> Option<u32>
     ensures { result ≡ scanned_by within command.now }
 {
     match command {
-        Command::Scan { table } if within => Some(*table),
+        Command::Scan { table } | Command::Range { table, .. } if within => Some(*table),
         _ => None,
     }
 }
@@ -133,7 +133,7 @@ impl<'a> Reader<'a> {
         }
     }
 
-    /// Reads the reply to a scan in a transaction.
+    /// Reads the reply to a scan or a range in a transaction.
     fn scan_reply(
         &mut self,
         alloc: Global,

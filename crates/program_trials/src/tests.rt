@@ -1,4 +1,5 @@
 //! Whole runs: of tables of each kind, and of devices that fail.
+mod checked;
 mod gated;
 mod hostile;
 mod kinds;

@@ -1,5 +1,6 @@
 pub mod PieceLemmas
 pub mod Spelled
+pub mod WideNumbers
 pub mod RowLemmas
 pub mod SaidSound
 pub mod Readings

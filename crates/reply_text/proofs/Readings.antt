@@ -148,6 +148,7 @@ said_some tables said.NoTransaction = record { first = _; others = _; is = refl 
 said_some tables (said.Found row) = record { first = _; others = _; is = refl }
 said_some tables said.Absent = record { first = _; others = _; is = refl }
 said_some tables (said.Scanned rows) = record { first = _; others = _; is = refl }
+said_some tables (said.Totalled count sum) = record { first = _; others = _; is = refl }
 said_some tables said.Accepted = record { first = _; others = _; is = refl }
 said_some tables (said.ConflictSession session) = record { first = _; others = _; is = refl }
 said_some tables (said.ConflictCommit number) = record { first = _; others = _; is = refl }
@@ -157,6 +158,7 @@ said_some tables said.Full = record { first = _; others = _; is = refl }
 said_some tables (said.Freezing table block stamp) = record { first = _; others = _; is = refl }
 said_some tables (said.Committed None) = record { first = _; others = _; is = refl }
 said_some tables (said.Committed (Some number)) = record { first = _; others = _; is = refl }
+said_some tables (said.Stale read number) = record { first = _; others = _; is = refl }
 said_some tables said.Aborted = record { first = _; others = _; is = refl }
 said_some tables (said.Cooling count) = record { first = _; others = _; is = refl }
 said_some tables (said.Pruned count) = record { first = _; others = _; is = refl }

@@ -1,11 +1,13 @@
 -- What is read of a reply's bytes is a reply with this text.
 use Rattle.std.proofs.Common.{◌≡◌, ℕ, Bool, true, false, cond, List, [], ◌∷◌, ◌++◌, refl, sym, ap, ◌∙◌, subst, length, arith}
 use Rattle.std.specs.Prelude.{◌&&◌, Option, Some, None, option_map, bytes_eq, codes, decimal, find, is_some}
+use Rattle.std.specs.Fmt.{signed_decimal}
 use Rattle.std.specs.Option.{option_map_or}
 use Rattle.cell_model.specs.declared.cell.Cell.{Cell}
 use Rattle.cell_model.specs.declared.table.TableDecl.{TableDecl}
 use Rattle.workload_spec.specs.declared.reply.Said.{Said}
 use Rattle.workload_spec.specs.declared.reply.Said.TheVariants as said
+use Rattle.workload_spec.specs.declared.reply.StaleRead.TheVariants as stale
 use Rattle.workload_spec.specs.Words.{spaced, cell_words, cell_text}
 use Rattle.workload_spec.specs.Reading.{AtStart, words_of}
 use Rattle.workload_spec.specs.ScriptText.{name_of_table}
@@ -15,9 +17,10 @@ use Rattle.workload_laws.proofs.Lists.{joined, position_is}
 use Rattle.workload_laws.proofs.Results.{eq_of}
 use Rattle.workload_laws.proofs.Parts.{line_joined, words_some}
 use Rattle.reply_text.specs.Shown.{is_u32, is_u64, is_row, is_said}
-use Rattle.reply_text.specs.Readers.{behind, cut, u64_in, u32_in, key_in, table_in, cells_in, row_in, answers, refusals, answer_in, refusal_in, block_in, exported_in, Openings, counts, places, opened_in, found_in, first_of, said_in}
+use Rattle.reply_text.specs.Readers.{behind, cut, u64_in, u32_in, key_in, sum_in, tagged_in, table_in, cells_in, row_in, answers, refusals, answer_in, refusal_in, block_in, exported_in, totalled_in, stale_table_in, stale_range_in, stale_key_in, stale_in, Openings, counts, places, opened_in, found_in, first_of, said_in}
 use Rattle.reply_text.proofs.PieceLemmas.{step, mapped, behind_is, cut_is}
 use Rattle.reply_text.proofs.Spelled.{u64_is, u32_is, key_is, cells_are}
+use Rattle.reply_text.proofs.WideNumbers.{sum_is}
 
 -- the reply is one over the tables, and this is its text
 pub record Tells (tables : List TableDecl) (told : Said) (bytes : List ℕ) : Type 0 where
@@ -188,7 +191,109 @@ exported_sound tables = λ rest told e.
       alone = refl;
     })))))))))))
 
--- Each reply about a block or an export that is read has its text.
+-- A total that is read has its text.
+totalled_sound : (tables : List TableDecl) → Sound tables (codes "total ", totalled_in)
+totalled_sound tables = λ rest told e.
+    step (cut 32 rest) _ told e (λ words c1 e1.
+    step (u64_in words.0) _ told e1 (λ count n1 e2.
+    step (sum_in words.1) _ told e2 (λ sum n2 e3.
+    let same : said.Totalled count sum ≡ told = cc in
+    let a = u64_is words.0 count n1 in
+    let b = sum_is words.1 sum n2 in
+    let outer : rest ≡ decimal count ++ 32 ∷ signed_decimal sum = cut_is 32 rest words c1 ∙ ap (λ (w : List ℕ). w ++ 32 ∷ words.1) (sym a.text) ∙ ap (λ (w : List ℕ). decimal count ++ 32 ∷ w) (sym b.0) in
+    subst (λ (s : Said). Tells tables s (codes "total " ++ rest)) same (record {
+      fits = joined a.fits b.1;
+      text = ap (λ (w : List ℕ). codes "total " ++ w) (sym outer);
+      alone = refl;
+    }))))
+
+-- a number behind a `#` that is read
+record IsTagged (n : ℕ) (word : List ℕ) : Type 0 where
+  text : codes "#" ++ decimal n ≡ word
+  fits : is_u64 n ≡ true
+
+-- A number behind a `#` that is read is its word.
+tagged_is : (word : List ℕ) (n : ℕ) → tagged_in word ≡ Some n → IsTagged n word
+tagged_is word n e = step (behind (codes "#") word) u64_in n e (λ digits b1 e1.
+    let u = u64_is digits n e1 in
+    record { text = ap (λ (d : List ℕ). codes "#" ++ d) u.text ∙ sym (behind_is (codes "#") word digits b1); fits = u.fits })
+
+-- A stale read of a table that is read has its text.
+stale_table_sound : (tables : List TableDecl) (rest : List ℕ) (told : Said) → stale_table_in tables rest ≡ Some told → Tells tables told (codes "stale " ++ rest)
+stale_table_sound tables rest told e =
+    step (behind (codes "table ") rest) _ told e (λ words b1 e1.
+    step (cut 32 words) _ told e1 (λ name c1 e2.
+    step (table_in tables name.0) _ told e2 (λ table found e3.
+    step (tagged_in name.1) _ told e3 (λ number n1 e4.
+    let same : said.Stale (stale.Table table) number ≡ told = cc in
+    let t = table_is tables name.0 table found in
+    let n = tagged_is name.1 number n1 in
+    let inner : words ≡ name_of_table tables table ++ 32 ∷ (codes "#" ++ decimal number) = cut_is 32 words name c1 ∙ ap (λ (w : List ℕ). w ++ 32 ∷ name.1) (sym t.text) ∙ ap (λ (w : List ℕ). name_of_table tables table ++ 32 ∷ w) (sym n.text) in
+    let outer : rest ≡ codes "table " ++ (name_of_table tables table ++ 32 ∷ (codes "#" ++ decimal number)) = behind_is (codes "table ") rest words b1 ∙ ap (λ (w : List ℕ). codes "table " ++ w) inner in
+    subst (λ (s : Said). Tells tables s (codes "stale " ++ rest)) same (record {
+      fits = joined t.there n.fits;
+      text = ap (λ (w : List ℕ). codes "stale " ++ w) (sym outer);
+      alone = refl;
+    })))))
+
+-- A stale read of a range that is read has its text.
+stale_range_sound : (tables : List TableDecl) (rest : List ℕ) (told : Said) → stale_range_in tables rest ≡ Some told → Tells tables told (codes "stale " ++ rest)
+stale_range_sound tables rest told e =
+    step (behind (codes "range ") rest) _ told e (λ words b1 e1.
+    step (cut 32 words) _ told e1 (λ name c1 e2.
+    step (table_in tables name.0) _ told e2 (λ table found e3.
+    step (cut 32 name.1) _ told e3 (λ low_word c2 e4.
+    step (key_in low_word.0) _ told e4 (λ low k1 e5.
+    step (cut 32 low_word.1) _ told e5 (λ high_word c3 e6.
+    step (key_in high_word.0) _ told e6 (λ high k2 e7.
+    step (tagged_in high_word.1) _ told e7 (λ number n1 e8.
+    let same : said.Stale (stale.Range table low high) number ≡ told = cc in
+    let t = table_is tables name.0 table found in
+    let a = key_is low_word.0 low k1 in
+    let b = key_is high_word.0 high k2 in
+    let n = tagged_is high_word.1 number n1 in
+    let ending : low_word.1 ≡ signed_decimal high ++ 32 ∷ (codes "#" ++ decimal number) = cut_is 32 low_word.1 high_word c3 ∙ ap (λ (w : List ℕ). w ++ 32 ∷ high_word.1) (sym b.0) ∙ ap (λ (w : List ℕ). signed_decimal high ++ 32 ∷ w) (sym n.text) in
+    let later : name.1 ≡ signed_decimal low ++ 32 ∷ (signed_decimal high ++ 32 ∷ (codes "#" ++ decimal number)) = cut_is 32 name.1 low_word c2 ∙ ap (λ (w : List ℕ). w ++ 32 ∷ low_word.1) (sym a.0) ∙ ap (λ (w : List ℕ). signed_decimal low ++ 32 ∷ w) ending in
+    let inner : words ≡ name_of_table tables table ++ 32 ∷ (signed_decimal low ++ 32 ∷ (signed_decimal high ++ 32 ∷ (codes "#" ++ decimal number))) = cut_is 32 words name c1 ∙ ap (λ (w : List ℕ). w ++ 32 ∷ name.1) (sym t.text) ∙ ap (λ (w : List ℕ). name_of_table tables table ++ 32 ∷ w) later in
+    let outer = behind_is (codes "range ") rest words b1 ∙ ap (λ (w : List ℕ). codes "range " ++ w) inner in
+    subst (λ (s : Said). Tells tables s (codes "stale " ++ rest)) same (record {
+      fits = joined (joined (joined t.there a.1) b.1) n.fits;
+      text = ap (λ (w : List ℕ). codes "stale " ++ w) (sym outer);
+      alone = refl;
+    })))))))))
+
+-- A stale read of a key that is read has its text.
+stale_key_sound : (tables : List TableDecl) (rest : List ℕ) (told : Said) → stale_key_in tables rest ≡ Some told → Tells tables told (codes "stale " ++ rest)
+stale_key_sound tables rest told e =
+    step (cut 32 rest) _ told e (λ name c1 e1.
+    step (table_in tables name.0) _ told e1 (λ table found e2.
+    step (cut 32 name.1) _ told e2 (λ key_word c2 e3.
+    step (key_in key_word.0) _ told e3 (λ key k1 e4.
+    step (tagged_in key_word.1) _ told e4 (λ number n1 e5.
+    let same : said.Stale (stale.Key table key) number ≡ told = cc in
+    let t = table_is tables name.0 table found in
+    let a = key_is key_word.0 key k1 in
+    let n = tagged_is key_word.1 number n1 in
+    let later : name.1 ≡ signed_decimal key ++ 32 ∷ (codes "#" ++ decimal number) = cut_is 32 name.1 key_word c2 ∙ ap (λ (w : List ℕ). w ++ 32 ∷ key_word.1) (sym a.0) ∙ ap (λ (w : List ℕ). signed_decimal key ++ 32 ∷ w) (sym n.text) in
+    let outer : rest ≡ name_of_table tables table ++ 32 ∷ (signed_decimal key ++ 32 ∷ (codes "#" ++ decimal number)) = cut_is 32 rest name c1 ∙ ap (λ (w : List ℕ). w ++ 32 ∷ name.1) (sym t.text) ∙ ap (λ (w : List ℕ). name_of_table tables table ++ 32 ∷ w) later in
+    subst (λ (s : Said). Tells tables s (codes "stale " ++ rest)) same (record {
+      fits = joined (joined t.there a.1) n.fits;
+      text = ap (λ (w : List ℕ). codes "stale " ++ w) (sym outer);
+      alone = refl;
+    }))))))
+
+-- What follows from the find of either reading follows from that of the first that finds.
+one_of : {A P : Type 0} (one other : Option A) (found : A) → first_of one other ≡ Some found → (one ≡ Some found → P) → (other ≡ Some found → P) → P
+one_of (Some value) other found e first second = first e
+one_of None other found e first second = second e
+
+-- A commit over a stale read that is read has its text.
+stale_sound : (tables : List TableDecl) → Sound tables (codes "stale ", stale_in tables)
+stale_sound tables = λ rest told e.
+    one_of (stale_table_in tables rest) _ told e (stale_table_sound tables rest told) (λ e1.
+    one_of (stale_range_in tables rest) (stale_key_in tables rest) told e1 (stale_range_sound tables rest told) (stale_key_sound tables rest told))
+
+-- Each reply about a block, an export, a total or a stale read that is read has its text.
 places_sound : (tables : List TableDecl) → AllSound tables (places tables)
 places_sound tables = (
   block_sound tables (codes "freezing ") said.Freezing (λ t b n. refl) (λ t b n. refl) (λ t b n. refl),
@@ -196,7 +301,7 @@ places_sound tables = (
     block_sound tables (codes "sealed ") said.Sealed (λ t b n. refl) (λ t b n. refl) (λ t b n. refl),
     (
       block_sound tables (codes "frozen ") said.Frozen (λ t b n. refl) (λ t b n. refl) (λ t b n. refl),
-      (exported_sound tables, tt),
+      (exported_sound tables, (totalled_sound tables, (stale_sound tables, tt))),
     ),
   ),
 )
@@ -236,11 +341,6 @@ found_is tables bytes told e =
       text = row_words (codes "row") row cells is ∙ sym (behind_is (codes "row ") bytes cells at);
       alone = refl;
     })))
-
--- What follows from the find of either reading follows from that of the first that finds.
-one_of : {A P : Type 0} (one other : Option A) (found : A) → first_of one other ≡ Some found → (one ≡ Some found → P) → (other ≡ Some found → P) → P
-one_of (Some value) other found e first second = first e
-one_of None other found e first second = second e
 
 -- a reply of one line that is read has this text
 pub said_is : (tables : List TableDecl) (bytes : List ℕ) (told : Said) → said_in tables bytes ≡ Some told → Tells tables told bytes

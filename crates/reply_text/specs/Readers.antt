@@ -10,6 +10,7 @@ use Rattle.workload_spec.specs.declared.reply.Who.{Who}
 use Rattle.workload_spec.specs.declared.reply.Who.TheVariants.{Session, Worker}
 use Rattle.workload_spec.specs.declared.reply.Said.{Said}
 use Rattle.workload_spec.specs.declared.reply.Said.TheVariants as said
+use Rattle.workload_spec.specs.declared.reply.StaleRead.TheVariants as stale
 use Rattle.workload_spec.specs.declared.reply.SealCause.TheVariants.{Phase, Head, Empty, Gaps}
 use Rattle.workload_spec.specs.declared.reply.SealCause.TheVariants.{Versions, Hot, Last}
 use Rattle.workload_spec.specs.Words.{space, line_feed, spaced}
@@ -18,6 +19,7 @@ use Rattle.workload_spec.specs.Valid.{is_key_number}
 use Rattle.workload_spec.specs.ReplyText.{said_words}
 use Rattle.word_read.specs.Numbers.{small_natural, small_integer}
 use Rattle.word_read.specs.Spellings.{truth_of, text_of, blob_of}
+use Rattle.reply_text.specs.Shown.{is_sum}
 
 -- what is read, and then what is read with it
 infixl 10 ◌>>=◌
@@ -49,6 +51,14 @@ u32_in word = natural_within 0 (2 ^ 32 - 1) word
 
 abbrev pub key_in : List ℕ → Option ℤ
 key_in word = integer_of word >>= λ key. where_true (is_key_number key) key
+
+-- the number of 128 bits that a word spells
+abbrev pub sum_in : List ℕ → Option ℤ
+sum_in word = integer_of word >>= λ sum. where_true (is_sum sum) sum
+
+-- the number behind a `#`
+abbrev pub tagged_in : List ℕ → Option ℕ
+tagged_in word = behind (codes "#") word >>= u64_in
 
 -- the table of this name
 abbrev pub table_in : List TableDecl → List ℕ → Option ℕ
@@ -116,6 +126,33 @@ exported_in bytes =
     λ batches. behind (codes "frozen ") third.1 >>= λ last.
     u32_in last >>= λ frozen. Some (said.Exported number rows batches frozen)
 
+-- how many numbers, and their sum
+abbrev pub totalled_in : List ℕ → Option Said
+totalled_in bytes =
+    cut space bytes >>= λ words. u64_in words.0 >>= λ count. sum_in words.1 >>= λ sum.
+    Some (said.Totalled count sum)
+
+-- the read that a later commit wrote, and the commit's number: a table behind its word, a range
+-- behind its word, or a key behind its table
+abbrev pub stale_table_in : List TableDecl → List ℕ → Option Said
+stale_table_in tables bytes =
+    behind (codes "table ") bytes >>= λ words. cut space words >>= λ name. table_in tables name.0 >>=
+    λ table. tagged_in name.1 >>= λ number.
+    Some (said.Stale (stale.Table table) number)
+
+abbrev pub stale_range_in : List TableDecl → List ℕ → Option Said
+stale_range_in tables bytes =
+    behind (codes "range ") bytes >>= λ words. cut space words >>= λ name. table_in tables name.0 >>=
+    λ table. cut space name.1 >>= λ low_word. key_in low_word.0 >>= λ low. cut space low_word.1 >>=
+    λ high_word. key_in high_word.0 >>= λ high. tagged_in high_word.1 >>= λ number.
+    Some (said.Stale (stale.Range table low high) number)
+
+abbrev pub stale_key_in : List TableDecl → List ℕ → Option Said
+stale_key_in tables bytes =
+    cut space bytes >>= λ name. table_in tables name.0 >>= λ table. cut space name.1 >>= λ key_word.
+    key_in key_word.0 >>= λ key. tagged_in key_word.1 >>= λ number.
+    Some (said.Stale (stale.Key table key) number)
+
 -- the replies of one number, or of a table's block: the bytes with which each begins, and what the
 -- bytes behind them are
 abbrev pub Openings : Type 0
@@ -136,11 +173,22 @@ counts = (codes "at ", λ word. option_map said.At (u64_in word))
     ∷ (codes "dirty ", λ word. option_map said.Dirty (key_in word))
     ∷ []
 
+-- the first that there is
+abbrev pub first_of : {A : Type 0} → Option A → Option A → Option A
+first_of (Some value) other = Some value
+first_of None other = other
+
+abbrev pub stale_in : List TableDecl → List ℕ → Option Said
+stale_in tables bytes = first_of (stale_table_in tables bytes)
+    (first_of (stale_range_in tables bytes) (stale_key_in tables bytes))
+
 abbrev pub places : List TableDecl → Openings
 places tables = (codes "freezing ", block_in tables said.Freezing)
     ∷ (codes "sealed ", block_in tables said.Sealed)
     ∷ (codes "frozen ", block_in tables said.Frozen)
     ∷ (codes "export ", exported_in)
+    ∷ (codes "total ", totalled_in)
+    ∷ (codes "stale ", stale_in tables)
     ∷ []
 
 -- by the first of the openings with which the bytes begin
@@ -151,11 +199,6 @@ opened_in (opening ∷ others) bytes = elim (behind opening.0 bytes)
 
 abbrev pub found_in : List ℕ → Option Said
 found_in bytes = behind (codes "row ") bytes >>= λ cells. option_map said.Found (row_in cells)
-
--- the first that there is
-abbrev pub first_of : {A : Type 0} → Option A → Option A → Option A
-first_of (Some value) other = Some value
-first_of None other = other
 
 -- a reply of one line
 abbrev pub said_in : List TableDecl → List ℕ → Option Said

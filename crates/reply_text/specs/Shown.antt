@@ -1,17 +1,19 @@
 -- Which replies there are over tables: numbers of their types, tables and causes that there are,
 -- and rows with a key.
-use Rattle.std.specs.Prelude.{ℕ, ◌^◌, Bool, true, false, ◌&&◌, nat_lt, List, [], ◌∷◌, length, None}
-use Rattle.std.specs.Prelude.{Some}
+use Rattle.std.specs.Prelude.{ℕ, ◌^◌, ◌-◌, Bool, true, false, ◌&&◌, nat_lt, List, [], ◌∷◌, length}
+use Rattle.std.specs.Prelude.{None, Some, ℤ, pos, negsuc}
 use Rattle.std.specs.List.{list_all}
 use Rattle.cell_model.specs.declared.cell.Cell.{Cell}
 use Rattle.cell_model.specs.declared.cell.Cell.TheVariants.{Null, Num, Truth, Text, Blob}
 use Rattle.cell_model.specs.declared.table.TableDecl.{TableDecl}
-use Rattle.cell_model.specs.Values.{are_bytes}
+use Rattle.cell_model.specs.Values.{are_bytes, is_between}
 use Rattle.workload_spec.specs.declared.reply.ReplyLine.{ReplyLine}
 use Rattle.workload_spec.specs.declared.reply.Who.{Who}
 use Rattle.workload_spec.specs.declared.reply.Who.TheVariants.{Session, Worker}
 use Rattle.workload_spec.specs.declared.reply.Said.{Said}
 use Rattle.workload_spec.specs.declared.reply.Said.TheVariants as said
+use Rattle.workload_spec.specs.declared.reply.StaleRead.{StaleRead}
+use Rattle.workload_spec.specs.declared.reply.StaleRead.TheVariants as stale
 use Rattle.workload_spec.specs.Valid.{is_table, have_own_names, is_table_place, is_key_number}
 use Rattle.word_read.specs.Numbers.{magnitude}
 
@@ -38,6 +40,17 @@ abbrev pub is_row : List Cell → Bool
 is_row [] = false
 is_row (key ∷ cells) = is_cell key && list_all is_cell cells
 
+-- a signed number of 128 bits
+abbrev pub is_sum : ℤ → Bool
+is_sum sum = is_between (negsuc (2 ^ 127 - 1)) (pos (2 ^ 127 - 1)) sum
+
+-- a table that there is, and keys
+abbrev pub is_stale : List TableDecl → StaleRead → Bool
+is_stale tables (stale.Key table key) = is_table_place tables table && is_key_number key
+is_stale tables (stale.Table table) = is_table_place tables table
+is_stale tables (stale.Range table low high) = is_table_place tables table && is_key_number low
+    && is_key_number high
+
 abbrev pub is_said : List TableDecl → Said → Bool
 is_said tables (said.At number) = is_u64 number
 is_said tables said.InTransaction = true
@@ -45,6 +58,7 @@ is_said tables said.NoTransaction = true
 is_said tables (said.Found row) = is_row row
 is_said tables said.Absent = true
 is_said tables (said.Scanned rows) = is_u64 (length rows) && list_all is_row rows
+is_said tables (said.Totalled count sum) = is_u64 count && is_sum sum
 is_said tables said.Accepted = true
 is_said tables (said.ConflictSession session) = is_u32 session
 is_said tables (said.ConflictCommit number) = is_u64 number
@@ -55,6 +69,7 @@ is_said tables (said.Freezing table block stamp) = is_table_place tables table &
     && is_u32 stamp
 is_said tables (said.Committed None) = true
 is_said tables (said.Committed (Some number)) = is_u64 number
+is_said tables (said.Stale read number) = is_stale tables read && is_u64 number
 is_said tables said.Aborted = true
 is_said tables (said.Cooling count) = is_u64 count
 is_said tables (said.Pruned count) = is_u64 count

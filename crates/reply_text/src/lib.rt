@@ -9,6 +9,8 @@ pub mod refusal;
 mod rows;
 mod said;
 mod shapes;
+mod stale;
+mod sums;
 
 pub use lines::{print_line, put_line};
 pub use pieces::behind;

@@ -43,6 +43,7 @@ fn cause_word(cause: Cause) -> &'static [u8]
         Cause::Number => b"number",
         Cause::Cell => b"cell",
         Cause::Block => b"block",
+        Cause::Column => b"column",
         Cause::Export => b"export",
         Cause::Line => b"line",
         Cause::Parting => b"parting",

@@ -3,14 +3,14 @@ ghost use Rattle.std.specs.Prelude.{◌≡◌, ◌++◌, ◌∷◌, [], true, co
 ghost use Rattle.std.specs.Fmt.{signed_decimal};
 ghost use Rattle.workload_spec.specs.Words.{cell_words};
 ghost use Rattle.workload_spec.specs.ScriptText.{name_of_table};
-ghost use Rattle.workload_spec.specs.ReplyText.{said_words, cause_text};
+ghost use Rattle.workload_spec.specs.ReplyText.{said_words, stale_words, cause_text};
 ghost use Rattle.word_text.specs.Words.{behind_spaces};
 ghost use Rattle.reply_text.specs.Upkeep.{is_upkeep};
 
 use cell_model::{Row, TableDecl};
 use std::alloc::AllocError;
-use word_text::{put_cells, put_key, put_natural, put_number, put_table_name};
-use workload_spec::{Said, SealCause};
+use word_text::{put_cells, put_key, put_natural, put_number, put_signed, put_table_name};
+use workload_spec::{Said, SealCause, StaleRead};
 
 /// The words of a reply; those of a scan are its first line's.
 pub fn put_said(out: &mut Vec<u8>, tables: &[TableDecl], said: &Said) -> Result<(), AllocError>
@@ -24,6 +24,7 @@ pub fn put_said(out: &mut Vec<u8>, tables: &[TableDecl], said: &Said) -> Result<
         Said::Found(row) => put_found(out, row),
         Said::Absent => out.extend_from_slice(b" none"),
         Said::Scanned(rows) => put_with_number(out, b" rows ", rows.len() as u64),
+        Said::Totalled { count, sum } => put_totalled(out, *count, *sum),
         Said::Accepted => out.extend_from_slice(b" ok"),
         Said::ConflictSession(session) => put_with_number(
             out,
@@ -41,6 +42,7 @@ pub fn put_said(out: &mut Vec<u8>, tables: &[TableDecl], said: &Said) -> Result<
         } => put_block(out, b" freezing", tables, *table, *block, *stamp),
         Said::Committed(None) => out.extend_from_slice(b" committed -"),
         Said::Committed(Some(number)) => put_with_number(out, b" committed ", *number),
+        Said::Stale { read, number } => put_stale(out, tables, *read, *number),
         Said::Aborted => out.extend_from_slice(b" aborted"),
         Said::Exported {
             number,
@@ -140,6 +142,57 @@ fn put_exported(
     put_with_number(out, b" rows ", rows)?;
     put_with_number(out, b" batches ", batches as u64)?;
     put_with_number(out, b" frozen ", frozen as u64)
+}
+
+/// The words of a total: how many numbers, and their sum.
+fn put_totalled(out: &mut Vec<u8>, count: u64, sum: i128) -> Result<(), AllocError>
+    ensures { OnOk result (out.new.items ≡ out.old.items
+        ++ behind_spaces (codes "total" ∷ decimal count ∷ signed_decimal sum ∷ [])) }
+{
+    put_with_number(out, b" total ", count)?;
+    put_signed(out, sum)
+}
+
+/// The words of a commit over a stale read: the read, and the last commit that wrote it.
+fn put_stale(
+    out: &mut Vec<u8>,
+    tables: &[TableDecl],
+    read: StaleRead,
+    number: u64,
+) -> Result<(), AllocError>
+    ensures { OnOk result (out.new.items ≡ out.old.items ++ (codes " stale"
+        ++ (behind_spaces (stale_words tables.now read) ++ (codes " #" ++ decimal number)))) }
+{
+    out.extend_from_slice(b" stale")?;
+    put_stale_read(out, tables, read)?;
+    put_with_number(out, b" #", number)
+}
+
+/// The words of a read that a later commit wrote.
+fn put_stale_read(
+    out: &mut Vec<u8>,
+    tables: &[TableDecl],
+    read: StaleRead,
+) -> Result<(), AllocError>
+    ensures { OnOk result (out.new.items ≡ out.old.items
+        ++ behind_spaces (stale_words tables.now read)) }
+{
+    match read {
+        StaleRead::Key { table, key } => {
+            put_table_name(out, tables, table)?;
+            put_key(out, key)
+        }
+        StaleRead::Table { table } => {
+            out.extend_from_slice(b" table")?;
+            put_table_name(out, tables, table)
+        }
+        StaleRead::Range { table, low, high } => {
+            out.extend_from_slice(b" range")?;
+            put_table_name(out, tables, table)?;
+            put_key(out, low)?;
+            put_key(out, high)
+        }
+    }
 }
 
 /// Text and a word behind it.

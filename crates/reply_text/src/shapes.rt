@@ -2,10 +2,13 @@
 ghost use Rattle.std.specs.Prelude.{◌≡◌, ℕ, ◌<◌, ◌^◌, length, option_map, IfOk, IfSome};
 ghost use Rattle.reply_text.specs.Readers.{answer_in, refusal_in, opened_in, counts, places};
 ghost use Rattle.reply_text.specs.Readers.{block_in, exported_in, key_in, table_in, said_in};
+ghost use Rattle.reply_text.specs.Readers.{totalled_in};
 ghost use Rattle.workload_spec.specs.declared.reply.Said.{Said as SaidValue};
 
 use crate::pieces::{behind, cut};
 use crate::rows::row_in;
+use crate::stale::stale_in;
+use crate::sums::sum_in;
 use cell_model::TableDecl;
 use std::alloc::{AllocError, Global};
 use word_read::{integer, natural, natural_within};
@@ -118,13 +121,13 @@ fn count_in(bytes: &[u8]) -> Option<Said>
 }
 
 /// The key that the word spells.
-fn key_in(word: &[u8]) -> Option<i64>
+pub fn key_in(word: &[u8]) -> Option<i64>
     ensures { result ≡ key_in word.now }
 {
     i64::try_from(integer(word)?).ok()
 }
 
-/// A reply on a block, or on an export.
+/// A reply on a block, an export, a total or a stale read.
 fn place_in(tables: &[TableDecl], bytes: &[u8]) -> Option<Said>
     requires { length tables.now < 2 ^ 32 }
     ensures { result ≡ opened_in (places tables.now) bytes.now }
@@ -149,6 +152,10 @@ fn place_in(tables: &[TableDecl], bytes: &[u8]) -> Option<Said>
         })
     } else if let Some(words) = behind(bytes, b"export ") {
         exported_in(words)
+    } else if let Some(words) = behind(bytes, b"total ") {
+        totalled_in(words)
+    } else if let Some(words) = behind(bytes, b"stale ") {
+        stale_in(tables, words)
     } else {
         None
     }
@@ -169,7 +176,7 @@ fn block_in(tables: &[TableDecl], words: &[u8]) -> Option<(u32, u32, u32)>
 }
 
 /// The place of the table of this name.
-fn table_in(tables: &[TableDecl], name: &[u8]) -> Option<u32>
+pub fn table_in(tables: &[TableDecl], name: &[u8]) -> Option<u32>
     requires { length tables.now < 2 ^ 32 }
     ensures { result ≡ table_in tables.now name.now }
 {
@@ -206,4 +213,14 @@ fn exported_in(words: &[u8]) -> Option<Said>
         batches,
         frozen,
     })
+}
+
+/// How many numbers a total has, and their sum.
+fn totalled_in(words: &[u8]) -> Option<Said>
+    ensures { result ≡ totalled_in words.now }
+{
+    let (count, sum) = cut(words, b' ')?;
+    let count = natural(count)?;
+    let sum = sum_in(sum)?;
+    Some(Said::Totalled { count, sum })
 }

@@ -5,6 +5,7 @@ pub mod Moments
 pub mod Open
 pub mod Lines
 pub mod Coming
+pub mod Commits
 pub mod Asking
 pub mod Along
 pub mod Named

@@ -15,3 +15,4 @@ pub mod Conflicting
 pub mod Answering
 pub mod Standing
 pub mod Explaining
+pub mod Staling

@@ -3,3 +3,4 @@ pub mod Standing
 pub mod Seats
 pub mod Threads
 pub mod Rounds
+pub mod Reads

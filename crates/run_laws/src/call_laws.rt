@@ -16,8 +16,8 @@ pub fn calls_answer_dues()
     ensures { CallsAnswerDues }
 {}
 
-/// Traces of one log, each with the lends of one session, are laid into one trace that has the lends
-/// of all.
+/// Traces of one log, each with the lends of one session, are laid into one trace that has the
+/// lends of all.
 pub fn lends_are_laid()
     ensures { LendsAreLaid }
 {}

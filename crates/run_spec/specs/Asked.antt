@@ -17,6 +17,7 @@ use Rattle.event_spec.specs.Parts.{tables_of}
 use Rattle.event_spec.specs.Plans.{BlockLook, plan_of}
 use Rattle.event_spec.specs.Replies.{CoreReply}
 use Rattle.isolation_spec.specs.Contents.{key_of}
+use Rattle.isolation_spec.specs.Reads.{ReadSet}
 use Rattle.workload_spec.specs.declared.command.Command.{Command}
 use Rattle.workload_spec.specs.declared.command.Command.TheVariants as command
 use Rattle.run_spec.specs.Occurrences.{Occurrence, replies_in}
@@ -95,33 +96,39 @@ moves table (pair ∷ pairs) = event.Move table (pair ∷ pairs) ∷ []
 abbrev pub by_own : Option OwnTransaction → (OwnTransaction → List CoreEvent) → List CoreEvent
 by_own own events = option_map_or events own []
 
--- All events of a session's command, in order. `own` is what the session has open, and `made` are
--- the events that were made: the parts before the first of them, an `oldest` and looks decide on
--- later ones.
+-- All events of a session's command, in order. `own` is what the session has open, `reads` what
+-- that read where it is checked, and `made` are the events that were made: the parts before the
+-- first of them, an `oldest` and looks decide on later ones. A commit hands in the reads. A range
+-- and a total read each block, as a scan does.
 abbrev pub events_of
-    : Shape → Option OwnTransaction → ℕ → Command → List Occurrence → List CoreEvent
-events_of shape own session command.Begin made = event.Begin session ∷ []
-events_of shape own session (command.Get table key) made =
+    : Shape → Option OwnTransaction → Option ReadSet → ℕ → Command → List Occurrence
+    → List CoreEvent
+events_of shape own reads session (command.Begin checked) made = event.Begin session ∷ []
+events_of shape own reads session (command.Get table key) made =
     by_own own (λ t. event.Get (own_key table key t) table key ∷ [])
-events_of shape own session (command.Scan table) made =
+events_of shape own reads session (command.Scan table) made =
     by_own own (λ t. at_blocks shape table (event.Read t table))
-events_of shape own session (command.Insert table row) made =
+events_of shape own reads session (command.Range table low high) made =
+    by_own own (λ t. at_blocks shape table (event.Read t table))
+events_of shape own reads session (command.Total table column low high) made =
+    by_own own (λ t. at_blocks shape table (event.Read t table))
+events_of shape own reads session (command.Insert table row) made =
     by_own own (λ t. event.Insert (own_key table (key_of row) t) table row ∷ [])
-events_of shape own session (command.Update table row) made =
+events_of shape own reads session (command.Update table row) made =
     by_own own (λ t.
     thaws shape table (key_of row) made
     ++ event.Update (own_key table (key_of row) t) table row ∷ [])
-events_of shape own session (command.Delete table key) made =
+events_of shape own reads session (command.Delete table key) made =
     by_own own (λ t.
     thaws shape table key made ++ event.Delete (own_key table key t) table key ∷ [])
-events_of shape own session command.Commit made = by_own own (λ t. event.Commit t ∷ [])
-events_of shape own session command.Abort made = by_own own (λ t. event.Abort t ∷ [])
-events_of shape own session command.Observe made = at_all_blocks shape event.Observe
-events_of shape own session command.Prune made = event.Oldest ∷ prunes shape made
-events_of shape own session (command.Compact table) made =
+events_of shape own reads session command.Commit made = by_own own (λ t. event.Commit t reads ∷ [])
+events_of shape own reads session command.Abort made = by_own own (λ t. event.Abort t ∷ [])
+events_of shape own reads session command.Observe made = at_all_blocks shape event.Observe
+events_of shape own reads session command.Prune made = event.Oldest ∷ prunes shape made
+events_of shape own reads session (command.Compact table) made =
     at_blocks shape table (event.Look table) ++ moves table (plan_of (looks_in made))
-events_of shape own session (command.Seal table block) made = event.Seal table block ∷ []
-events_of shape own session (command.Gather table block) made =
+events_of shape own reads session (command.Seal table block) made = event.Seal table block ∷ []
+events_of shape own reads session (command.Gather table block) made =
     event.Image table block (image_of shape table block made) ∷ []
-events_of shape own session (command.Export table) made =
+events_of shape own reads session (command.Export table) made =
     by_own own (λ t. at_blocks shape table (event.Read t table))

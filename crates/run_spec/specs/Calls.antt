@@ -2,13 +2,16 @@
 use Rattle.std.specs.Prelude.{◌≡◌, ◌⊎◌, ⊤, ℕ, Bool, true, false, not, ◌&&◌, ◌||◌, List, [], ◌∷◌}
 use Rattle.std.specs.Prelude.{◌++◌, Option, None, Some, option_and_then, if◌then◌else◌}
 use Rattle.std.specs.List.{list_any}
+use Rattle.std.specs.Option.{option_map_or}
 use Rattle.event_spec.specs.declared.event.Event.TheVariants as event
 use Rattle.event_spec.specs.declared.own.OwnTransaction.{OwnTransaction}
 use Rattle.event_spec.specs.declared.reply.Reply.TheVariants as reply
 use Rattle.event_spec.specs.Effects.{CoreEvent}
 use Rattle.event_spec.specs.Parts.{Shape}
 use Rattle.event_spec.specs.Replies.{CoreReply}
+use Rattle.isolation_spec.specs.Reads.{ReadSet}
 use Rattle.outcome_spec.specs.Forms.{is_silent}
+pub use Rattle.outcome_spec.specs.Stale.{reads_behind}
 use Rattle.workload_spec.specs.declared.command.Command.{Command}
 use Rattle.workload_spec.specs.declared.command.Command.TheVariants as command
 use Rattle.workload_spec.specs.declared.reply.Said.{Said}
@@ -18,19 +21,24 @@ use Rattle.run_spec.specs.Occurrences.{Occurrence, events_in, replies_in}
 use Rattle.run_spec.specs.Opened.{own_after}
 use Rattle.run_spec.specs.Told.{line_of, refusal_of}
 
--- A command that was carried out: its events, and its line; none where it is silent.
+-- A command that was carried out: its events, and its line; none where it is silent. `reads` is
+-- what its session's open transaction had read before it; none where that is plain, and without
+-- one.
 pub record Call : Type 0 where
   pub command : Command
   pub made : List Occurrence
   pub told : Option Said
+  pub reads : Option ReadSet
 
 -- ---- want of memory
 
 -- the commands that may find no memory
 abbrev pub may_lack_memory : Command → Bool
-may_lack_memory command.Begin = false
+may_lack_memory (command.Begin checked) = false
 may_lack_memory (command.Get table key) = true
 may_lack_memory (command.Scan table) = true
+may_lack_memory (command.Range table low high) = true
+may_lack_memory (command.Total table column low high) = true
 may_lack_memory (command.Insert table row) = true
 may_lack_memory (command.Update table row) = true
 may_lack_memory (command.Delete table key) = true
@@ -51,7 +59,7 @@ is_final (event.Insert own table row) = true
 is_final (event.Update own table row) = true
 is_final (event.Delete own table key) = true
 is_final (event.Read own table block) = false
-is_final (event.Commit own) = false
+is_final (event.Commit own reads) = false
 is_final (event.Abort own) = false
 is_final event.Oldest = false
 is_final (event.Observe table block) = false
@@ -90,7 +98,8 @@ line_to true told = option_and_then (λ line. if is_silent line then None else S
 pub record IsWhole
     (shape : Shape) (worker : Bool) (session : ℕ) (own : Option OwnTransaction) (call : Call)
     : Type 0 where
-  pub events : events_in call.made ≡ events_of shape own session call.command call.made
+  pub events
+      : events_in call.made ≡ events_of shape own call.reads session call.command call.made
   pub granted : list_any is_refused call.made ≡ false
   pub line : call.told ≡ line_to worker (line_of own call.command (replies_in call.made))
 
@@ -99,7 +108,9 @@ pub record IsPart
     (shape : Shape) (session : ℕ) (own : Option OwnTransaction) (call : Call) : Type 0 where
   pub may : may_lack_memory call.command ≡ true
   pub missed : List CoreEvent
-  pub events : events_of shape own session call.command call.made ≡ events_in call.made ++ missed
+  pub events
+      : events_of shape own call.reads session call.command call.made
+      ≡ events_in call.made ++ missed
   pub cut : is_cut_short call.made ≡ true
   pub line : call.told ≡ Some said.Memory
 
@@ -121,3 +132,14 @@ AreCalls shape worker session front [] = ⊤
 AreCalls shape worker session front (call ∷ calls) =
     IsCall shape worker session front call
     × AreCalls shape worker session (front ++ call.made) calls
+
+-- ---- what was read
+
+-- what a session's open transaction has read behind a call
+abbrev pub reads_now : Option ReadSet → Call → Option ReadSet
+reads_now reads call = option_map_or (reads_behind reads call.command) call.told reads
+
+-- Calls one behind the other keep what was read: each has before it what those before it were told.
+abbrev pub Kept : Option ReadSet → List Call → Type 0
+Kept reads [] = ⊤
+Kept reads (call ∷ calls) = (call.reads ≡ reads) × Kept (reads_now reads call) calls

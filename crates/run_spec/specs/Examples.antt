@@ -43,8 +43,9 @@ shape = shape_of (sessions (texts 2) [])
 abbrev pub by : ℕ → CoreEvent → CoreReply → Occurrence
 by session event told = record { session = session; before = []; event = event; reply = told }
 
+-- a call of a plain transaction, or of none
 abbrev pub call : Command → List Occurrence → Said → Call
-call asked made told = record { command = asked; made = made; told = Some told }
+call asked made told = record { command = asked; made = made; told = Some told; reads = None }
 
 abbrev pub snapshot : Snapshot
 snapshot = record { stamp = 4; number = 3 }
@@ -104,7 +105,7 @@ abbrev pub accepted : List Occurrence
 accepted = inserts None (reply.Written 6)
 
 abbrev pub commits : PlaceMap ℕ → List Occurrence
-commits writes = by 1 (event.Commit (own writes)) (reply.Committed (Some 4)) ∷ []
+commits writes = by 1 (event.Commit (own writes) None) (reply.Committed (Some 4)) ∷ []
 
 abbrev pub TellsBehind : Command → List Occurrence → Said → Type 0
 TellsBehind asked made told = IsCall shape false 1 (begun ++ accepted) (call asked made told)
@@ -116,7 +117,7 @@ WritesAreTheTransactions =
     Calls
     (call insert accepted said.Accepted
     ∷ call insert (inserts (Some 6) (reply.Refused refusal.Exists)) said.Exists
-    ∷ call command.Begin [] said.InTransaction
+    ∷ call (command.Begin false) [] said.InTransaction
     ∷ call command.Commit (commits ((place_at 0 (pos 5), 6) ∷ [])) (said.Committed (Some 4))
     ∷ call get [] said.NoTransaction
     ∷ [])
@@ -276,7 +277,7 @@ sealed_core = each_changed
     (opening (shape_of one_worker))
 
 abbrev pub step : Command → List Occurrence → Option Said → Call
-step asked made told = record { command = asked; made = made; told = told }
+step asked made told = record { command = asked; made = made; told = told; reads = None }
 
 abbrev pub done_by : Parts → CoreEvent → CoreReply → Occurrence
 done_by parts event told = record { session = 2; before = parts; event = event; reply = told }

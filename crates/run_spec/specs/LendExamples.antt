@@ -60,6 +60,7 @@ Exports told = IsCall
       command = command.Export 0;
       made = under 1 (occurrences_from (shape_of script) frozen (as_log trace));
       told = Some told;
+      reads = None;
     })
 
 -- Where blocks are lent the log has the other's event alone, and the lends count as frozen blocks.

@@ -7,5 +7,6 @@ pub mod Calls
 pub mod Ran
 pub mod Handed
 pub mod Examples
+pub mod CheckedExamples
 pub mod RunExamples
 pub mod LendExamples

@@ -23,6 +23,29 @@ with_own place (reply.Written slot) own =
     record own { writes = insert_entry place_cmp own.writes place slot }
 with_own place _ own = own
 
+-- A commit ends the transaction, but one that was refused for a stale read leaves it as it is.
+abbrev pub committed_by : Option OwnTransaction → CoreReply → Option OwnTransaction
+committed_by own (reply.Stale what number) = own
+committed_by own (reply.Committed number) = None
+committed_by own (reply.Begun snapshot) = None
+committed_by own (reply.Found row) = None
+committed_by own (reply.Written slot) = None
+committed_by own (reply.Refused refused) = None
+committed_by own (reply.Rows rows) = None
+committed_by own (reply.Shared rows) = None
+committed_by own reply.Aborted = None
+committed_by own (reply.Oldest oldest) = None
+committed_by own (reply.Turned turned) = None
+committed_by own (reply.Dropped count) = None
+committed_by own (reply.Looked look) = None
+committed_by own (reply.Moved count) = None
+committed_by own (reply.Sealed stamp) = None
+committed_by own (reply.NotSealed because) = None
+committed_by own (reply.Imaged rows) = None
+committed_by own reply.NoSeal = None
+committed_by own reply.Thawed = None
+committed_by own reply.Memory = None
+
 -- what a session has open behind one more of its events
 abbrev pub own_behind : Option OwnTransaction → CoreEvent → CoreReply → Option OwnTransaction
 own_behind own (event.Begin session) told = begun_by session own told
@@ -34,7 +57,7 @@ own_behind own (event.Update handed table row) told =
 own_behind own (event.Delete handed table key) told =
     option_map (with_own (place_at table key) told) own
 own_behind own (event.Read handed table block) told = own
-own_behind own (event.Commit handed) told = None
+own_behind own (event.Commit handed reads) told = committed_by own told
 own_behind own (event.Abort handed) told = None
 own_behind own event.Oldest told = own
 own_behind own (event.Observe table block) told = own

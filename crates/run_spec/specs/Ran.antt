@@ -1,9 +1,11 @@
 -- A script, a log of events and a text belong together: the script ran, the log is what it did, but
 -- for the blocks that were lent, and the text is what it printed.
-use Rattle.std.specs.Prelude.{◌≡◌, ⊤, ℕ, ◌+◌, ◌≤◌, List, [], ◌∷◌, ◌++◌, map, Option, All}
+use Rattle.std.specs.Prelude.{◌≡◌, ⊤, ℕ, ◌+◌, ◌≤◌, List, [], ◌∷◌, ◌++◌, map, filter, Option, None}
+use Rattle.std.specs.Prelude.{All}
 use Rattle.std.specs.List.{flat_map, range_with_len}
 use Rattle.event_spec.specs.Parts.{Shape}
 use Rattle.event_spec.specs.Replay.{IsLawfulLog, opening}
+use Rattle.outcome_spec.specs.Entries.{is_same}
 use Rattle.outcome_spec.specs.Forms.{commands_of, turn_of, is_worker}
 use Rattle.timeline_spec.specs.Printed.{text_of}
 use Rattle.workload_spec.specs.declared.command.Command.{Command}
@@ -12,7 +14,7 @@ use Rattle.workload_spec.specs.declared.reply.Who.{Who}
 use Rattle.workload_spec.specs.declared.reply.Who.TheVariants.{Session, Worker}
 use Rattle.workload_spec.specs.declared.script.Line.{Line}
 use Rattle.workload_spec.specs.declared.script.Script.{Script}
-use Rattle.run_spec.specs.Calls.{Call, AreCalls}
+use Rattle.run_spec.specs.Calls.{Call, AreCalls, Kept}
 use Rattle.run_spec.specs.Occurrences.{Logged, Occurrence, occurrences_in, under}
 use Rattle.run_spec.specs.Traces.{Action, LendsFit, as_log, log_in}
 
@@ -95,10 +97,17 @@ told_in rounds = flat_map
     (λ round. flat_map (λ share. map (λ call. call.told) share.calls) round.shares)
     rounds
 
+-- one's calls of all rounds, one behind the other
+abbrev pub calls_of : Who → List RoundRun → List Call
+calls_of who rounds = flat_map
+    (λ share. share.calls)
+    (filter (λ share. is_same share.who who) (flat_map (λ round. round.shares) rounds))
+
 -- The script ran with this log and printed this text. The log is lawful. With the blocks that were
 -- lent at their points it is a trace, which is the rounds' parts one behind the other. In each
 -- round each session carried out its commands and each worker its turns, in order; these calls have
--- the events and the lends of the trace, and the text is what they told.
+-- the events and the lends of the trace, each knows what its session's calls before it were told
+-- that was read, and the text is what they told.
 pub record Ran (script : Script) (log : List Logged) (text : List ℕ) : Type 0 where
   pub lawful : IsLawfulLog (shape_of script) (map (λ entry. entry.made) log)
   pub trace : List Action
@@ -110,4 +119,5 @@ pub record Ran (script : Script) (log : List Logged) (text : List ℕ) : Type 0 
   pub parted
       : occurrences_in (shape_of script) (as_log trace) ≡ flat_map (λ round. round.made) rounds
   pub done : AreRounds script [] rounds
+  pub kept : (who : Who) → Kept None (calls_of who rounds)
   pub printed : text ≡ text_of script (told_in rounds)

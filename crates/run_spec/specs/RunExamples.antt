@@ -36,7 +36,7 @@ log =
     ∷ by 1 (event.Read own 0 1)
     ∷ by 2 (event.Prune 0 1 0)
     ∷ by 2 (event.Look 0 0)
-    ∷ by 1 (event.Commit own)
+    ∷ by 1 (event.Commit own None)
     ∷ by 2 (event.Look 0 1)
     ∷ by 2 (event.Seal 0 0)
     ∷ by 2 (event.Image 0 0 None)

@@ -1,6 +1,6 @@
 -- The line that is made of the replies to a command's events. One table lists it for all commands.
-use Rattle.std.specs.Prelude.{ℕ, Bool, true, false, List, [], ◌∷◌, count_by, sum_by, fold, length}
-use Rattle.std.specs.Prelude.{Option, None, Some, is_none, option_map, option_and_then}
+use Rattle.std.specs.Prelude.{ℕ, ℤ, Bool, true, false, List, [], ◌∷◌, count_by, sum_by, fold}
+use Rattle.std.specs.Prelude.{length, Option, None, Some, is_none, option_map, option_and_then}
 use Rattle.std.specs.Prelude.{if◌then◌else◌}
 use Rattle.std.specs.BTreeMap.{insert_entry}
 use Rattle.std.specs.List.{flat_map, last_or}
@@ -12,7 +12,9 @@ use Rattle.event_spec.specs.declared.reply.Reply.TheVariants as reply
 use Rattle.event_spec.specs.declared.reply.WriteFault.{WriteFault}
 use Rattle.event_spec.specs.declared.reply.WriteFault.TheVariants as refusal
 use Rattle.event_spec.specs.Replies.{CoreReply}
-use Rattle.isolation_spec.specs.Contents.{place_cmp, contents_of, place_of}
+use Rattle.isolation_spec.specs.Contents.{State, place_cmp, contents_between, contents_of}
+use Rattle.isolation_spec.specs.Contents.{numbers_between, place_of, sum_of}
+pub use Rattle.timeline_spec.specs.Timeline.{stale_of}
 use Rattle.workload_spec.specs.declared.command.Command.{Command}
 use Rattle.workload_spec.specs.declared.command.Command.TheVariants as command
 use Rattle.workload_spec.specs.declared.reply.Said.{Said}
@@ -34,9 +36,11 @@ unless_clean table (Some own) = option_map said.Dirty (least_written table own)
 
 -- Why a command is refused before it makes an event, by what its session has open.
 abbrev pub refusal_of : Command → Option OwnTransaction → Option Said
-refusal_of command.Begin own = if is_none own then None else Some said.InTransaction
+refusal_of (command.Begin checked) own = if is_none own then None else Some said.InTransaction
 refusal_of (command.Get table key) own = unless_open own
 refusal_of (command.Scan table) own = unless_open own
+refusal_of (command.Range table low high) own = unless_open own
+refusal_of (command.Total table column low high) own = unless_open own
 refusal_of (command.Insert table row) own = unless_open own
 refusal_of (command.Update table row) own = unless_open own
 refusal_of (command.Delete table key) own = unless_open own
@@ -82,6 +86,7 @@ told_by table block (reply.Refused refused) = Some (fault_told table refused)
 told_by table block (reply.Rows rows) = None
 told_by table block (reply.Shared rows) = None
 told_by table block (reply.Committed number) = Some (said.Committed number)
+told_by table block (reply.Stale what number) = Some (said.Stale (stale_of what) number)
 told_by table block reply.Aborted = Some said.Aborted
 told_by table block (reply.Oldest oldest) = None
 told_by table block (reply.Turned turned) = None
@@ -128,11 +133,22 @@ abbrev pub moved_told : CoreReply → ℕ
 moved_told (reply.Moved count) = count
 moved_told _ = 0
 
--- rows of a table in the order of their keys
+-- rows of a table, by their places
+abbrev pub by_place : ℕ → List Row → State
+by_place table rows =
+    fold (λ state row. insert_entry place_cmp state (place_of table row) row) [] rows
+
+-- rows of a table in the order of their keys, and those of them whose keys lie between two, both
+-- counted
 abbrev pub in_key_order : ℕ → List Row → List Row
-in_key_order table rows = contents_of
-    table
-    (fold (λ state row. insert_entry place_cmp state (place_of table row) row) [] rows)
+in_key_order table rows = contents_of table (by_place table rows)
+
+abbrev pub rows_between : ℕ → ℤ → ℤ → List Row → List Row
+rows_between table low high rows = contents_between table low high (by_place table rows)
+
+-- how many numbers there are, and their sum
+abbrev pub total_told : List ℤ → Said
+total_told numbers = said.Totalled (length numbers) (sum_of numbers)
 
 -- An export's summary: the snapshot, the rows, the blocks with a row, and the blocks that were
 -- imaged at their read.
@@ -147,10 +163,14 @@ summary_of own replies = said.Exported
 
 -- The line of a command to which all its events were made, with these replies.
 abbrev pub line_of : Option OwnTransaction → Command → List CoreReply → Option Said
-line_of own command.Begin replies = last_told 0 0 replies
+line_of own (command.Begin checked) replies = last_told 0 0 replies
 line_of own (command.Get table key) replies = last_told table 0 replies
 line_of own (command.Scan table) replies =
     Some (said.Scanned (in_key_order table (flat_map rows_told replies)))
+line_of own (command.Range table low high) replies =
+    Some (said.Scanned (rows_between table low high (flat_map rows_told replies)))
+line_of own (command.Total table column low high) replies =
+    Some (total_told (numbers_between column low high (flat_map rows_told replies)))
 line_of own (command.Insert table row) replies = last_told table 0 replies
 line_of own (command.Update table row) replies = last_told table 0 replies
 line_of own (command.Delete table key) replies = last_told table 0 replies

@@ -41,8 +41,8 @@ pub record MayLend (shape : Shape) (parts : Parts) (entry : Logged) : Type 0 whe
   pub lawful : IsLawful shape entry.made.event parts
   pub imaged : is_shared (reply_after shape parts entry.made) ≡ true
 
--- An action stands at its point: a block is lent where it may be, and none is read by an event where
--- it is imaged. So a read of a block is a lend exactly where the block is imaged.
+-- An action stands at its point: a block is lent where it may be, and none is read by an event
+-- where it is imaged. So a read of a block is a lend exactly where the block is imaged.
 pub record FitsAt (shape : Shape) (parts : Parts) (action : Action) : Type 0 where
   pub lend : action.lent ≡ true → MayLend shape parts action.entry
   pub read : action.lent ≡ false → is_shared (reply_after shape parts action.entry.made) ≡ false

@@ -1,6 +1,7 @@
 //! Worked examples of calls: each is a fact that the definitions compute.
 ghost use Rattle.run_spec.specs.RunExamples.{ExportsBesideAWorker};
 ghost use Rattle.run_spec.specs.LendExamples.{LendsStandForReads};
+ghost use Rattle.run_spec.specs.CheckedExamples.{StaleCommitsEndNothing, TablesAreReadWhole};
 ghost use Rattle.run_spec.specs.Examples.{GetsTellTheRow, WritesAreTheTransactions};
 ghost use Rattle.run_spec.specs.Examples.{ChangesThawFirst, OthersDoNot, ScansReadEachBlock};
 ghost use Rattle.run_spec.specs.Examples.{ExportsCountImages, PrunesGoBlockByBlock};
@@ -14,6 +15,17 @@ pub fn gets_tell_the_row()
 /// A transaction has what it wrote until it ends, and its events are handed that.
 pub fn writes_are_the_transactions()
     ensures { WritesAreTheTransactions }
+{}
+
+/// A commit that is refused for a stale read ends nothing, and hands in what was read: what calls
+/// before it were told, a row or none.
+pub fn stale_commits_end_nothing()
+    ensures { StaleCommitsEndNothing }
+{}
+
+/// Scans and exports read whole tables, each once.
+pub fn tables_are_read_whole()
+    ensures { TablesAreReadWhole }
 {}
 
 /// A change thaws the imaged block in which the key's row lies, and no other block.
@@ -52,8 +64,8 @@ pub fn a_session_exports_beside_a_worker()
     ensures { ExportsBesideAWorker }
 {}
 
-/// An export that lends both blocks of its table: its lends stand for the reads of them, and the log
-/// has no entry of them.
+/// An export that lends both blocks of its table: its lends stand for the reads of them, and the
+/// log has no entry of them.
 pub fn lends_stand_for_reads()
     ensures { LendsStandForReads }
 {}

@@ -67,7 +67,7 @@ unsigned_large (pos n) high much large = and_right (int_le (pos 0) (pos n)) (int
 unsigned_large (negsuc n) high much large = refl
 
 -- an integer that is not small is none of a sort
-large_none : (values : Values) (n : ℤ) → is_small (magnitude n) ≡ false → is_integer_in values n ≡ false
+pub large_none : (values : Values) (n : ℤ) → is_small (magnitude n) ≡ false → is_integer_in values n ≡ false
 large_none (Signed number.Bits8) n large = signed_large n (2 ^ 7 - 1) (2 ^ 7 - 1) (omega arith) (omega arith) large
 large_none (Signed number.Bits16) n large = signed_large n (2 ^ 15 - 1) (2 ^ 15 - 1) (omega arith) (omega arith) large
 large_none (Signed number.Bits32) n large = signed_large n (2 ^ 31 - 1) (2 ^ 31 - 1) (omega arith) (omega arith) large

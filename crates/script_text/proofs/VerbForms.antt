@@ -16,7 +16,7 @@ Entry = List ℕ × Form × Bool
 
 -- The entry of a verb by its word, its form and whether the commands take it.
 abbrev entry_of : Commands → Verb → Entry
-entry_of taken verb = (verb_text verb, verb_form verb, takes taken verb)
+entry_of taken verb = (verb_text verb, verb_form taken verb, takes taken verb)
 
 -- Where the verbs give none with one more in front, the entries give none with its own.
 none_by : (taken : Commands) (first : List ℕ) (is rest : Bool) (entry : Entry) (more : Option Entry) (verb : Verb) (others : Option Verb) → cond is (Some verb) others ≡ None → (others ≡ None → more ≡ None) → cond (is && rest) (Some entry) more ≡ None
@@ -31,7 +31,7 @@ none_found taken first (verb ∷ all) e =
     (none_found taken first all)
 
 -- A verb's word has the verb's form where the verb is taken.
-form_at : (extent : Extent) (verb : Verb) (taken : Bool) → takes extent.commands verb ≡ taken → form_of extent (verb_text verb) ≡ (if taken then Some (verb_form verb) else None)
+form_at : (extent : Extent) (verb : Verb) (taken : Bool) → takes extent.commands verb ≡ taken → form_of extent (verb_text verb) ≡ (if taken then Some (verb_form extent.commands verb) else None)
 form_at extent verb.Begin true e = rw e refl
 form_at extent verb.Begin false e = rw e refl
 form_at extent verb.Get true e = rw e refl
@@ -60,10 +60,14 @@ form_at extent verb.Gather true e = rw e refl
 form_at extent verb.Gather false e = rw e refl
 form_at extent verb.Export true e = rw e refl
 form_at extent verb.Export false e = rw e refl
+form_at extent verb.Range true e = rw e refl
+form_at extent verb.Range false e = rw e refl
+form_at extent verb.Total true e = rw e refl
+form_at extent verb.Total false e = rw e refl
 
 -- the form that a verb has within an extent
 abbrev pub form_by : Extent → Option Verb → Option Form
-form_by extent o = option_and_then (λ verb. if takes extent.commands verb then Some (verb_form verb) else None) o
+form_by extent o = option_and_then (λ verb. if takes extent.commands verb then Some (verb_form extent.commands verb) else None) o
 
 -- The form of a first word is that of the verb that was found for it.
 by_found : (extent : Extent) (first : List ℕ) (o : Option Verb) → find (λ verb. bytes_eq (verb_text verb) first) verbs ≡ o → form_of extent first ≡ form_by extent o

@@ -2,14 +2,15 @@
 use Rattle.std.specs.Prelude.{ℕ, Bool, List, [], ◌∷◌, codes}
 use Rattle.workload_spec.specs.declared.command.Command.TheVariants as command
 use Rattle.workload_spec.specs.declared.extent.Commands.{Commands}
-use Rattle.workload_spec.specs.Grammar.{Form, Alone, OfTable, OfKey, OfRow, OfBlock}
+use Rattle.workload_spec.specs.Grammar.{Form, Alone, OfTable, OfKey, OfRow, OfBlock, OfBegin}
+use Rattle.workload_spec.specs.Grammar.{OfRange, OfTotal}
 use Rattle.script_text.specs.declared.verbs.Verb.{Verb}
 use Rattle.script_text.specs.declared.verbs.Verb.TheVariants as verb
 
 abbrev pub verbs : List Verb
 verbs = verb.Begin ∷ verb.Get ∷ verb.Scan ∷ verb.Insert ∷ verb.Update ∷ verb.Delete ∷ verb.Commit
     ∷ verb.Abort ∷ verb.Observe ∷ verb.Prune
-    ∷ verb.Compact ∷ verb.Seal ∷ verb.Gather ∷ verb.Export ∷ []
+    ∷ verb.Compact ∷ verb.Seal ∷ verb.Gather ∷ verb.Export ∷ verb.Range ∷ verb.Total ∷ []
 
 abbrev pub verb_text : Verb → List ℕ
 verb_text verb.Begin = codes "begin"
@@ -26,23 +27,27 @@ verb_text verb.Compact = codes "compact"
 verb_text verb.Seal = codes "seal"
 verb_text verb.Gather = codes "gather"
 verb_text verb.Export = codes "export"
+verb_text verb.Range = codes "range"
+verb_text verb.Total = codes "total"
 
--- what stands behind the first word, and the command that it makes
-abbrev pub verb_form : Verb → Form
-verb_form verb.Begin = Alone command.Begin
-verb_form verb.Get = OfKey command.Get
-verb_form verb.Scan = OfTable command.Scan
-verb_form verb.Insert = OfRow command.Insert
-verb_form verb.Update = OfRow command.Update
-verb_form verb.Delete = OfKey command.Delete
-verb_form verb.Commit = Alone command.Commit
-verb_form verb.Abort = Alone command.Abort
-verb_form verb.Observe = Alone command.Observe
-verb_form verb.Prune = Alone command.Prune
-verb_form verb.Compact = OfTable command.Compact
-verb_form verb.Seal = OfBlock command.Seal
-verb_form verb.Gather = OfBlock command.Gather
-verb_form verb.Export = OfTable command.Export
+-- what stands behind the first word, where these commands are taken, and the command that it makes
+abbrev pub verb_form : Commands → Verb → Form
+verb_form taken verb.Begin = OfBegin taken.begin_checked
+verb_form taken verb.Get = OfKey command.Get
+verb_form taken verb.Scan = OfTable command.Scan
+verb_form taken verb.Insert = OfRow command.Insert
+verb_form taken verb.Update = OfRow command.Update
+verb_form taken verb.Delete = OfKey command.Delete
+verb_form taken verb.Commit = Alone command.Commit
+verb_form taken verb.Abort = Alone command.Abort
+verb_form taken verb.Observe = Alone command.Observe
+verb_form taken verb.Prune = Alone command.Prune
+verb_form taken verb.Compact = OfTable command.Compact
+verb_form taken verb.Seal = OfBlock command.Seal
+verb_form taken verb.Gather = OfBlock command.Gather
+verb_form taken verb.Export = OfTable command.Export
+verb_form taken verb.Range = OfRange
+verb_form taken verb.Total = OfTotal
 
 abbrev pub takes : Commands → Verb → Bool
 takes taken verb.Begin = taken.begin
@@ -59,3 +64,5 @@ takes taken verb.Compact = taken.compact
 takes taken verb.Seal = taken.seal
 takes taken verb.Gather = taken.gather
 takes taken verb.Export = taken.export
+takes taken verb.Range = taken.range
+takes taken verb.Total = taken.total

@@ -1,12 +1,17 @@
 //! The lines of a round: a session and a command.
-ghost use Rattle.std.specs.Prelude.{◌≡◌, ◌==◌, ◌+◌, ◌^◌, ◌<◌, ℕ, ℤ, List, IfOk, length, drop};
-ghost use Rattle.std.specs.Prelude.{nat_lt};
+ghost use Rattle.std.specs.Prelude.{◌≡◌, ◌==◌, ◌+◌, ◌^◌, ◌<◌, ◌≤◌, ℕ, ℤ, List, IfOk, length};
+ghost use Rattle.std.specs.Prelude.{nat_lt, drop, IfSome};
 ghost use Rattle.cell_model.specs.declared.cell.Cell.{Cell as CellValue};
+ghost use Rattle.cell_model.specs.declared.table.TableDecl.{TableDecl as TableValue};
+ghost use Rattle.cell_model.specs.Kinds.{values_of};
+ghost use Rattle.cell_model.specs.Schemas.{place_of_name};
 ghost use Rattle.workload_spec.specs.declared.command.Command.{Command as CommandValue};
+ghost use Rattle.workload_spec.specs.declared.command.Command.TheVariants as command;
 ghost use Rattle.workload_spec.specs.Reading.{words_of};
-ghost use Rattle.workload_spec.specs.Valid.{is_export, is_block_of};
+ghost use Rattle.workload_spec.specs.Valid.{is_export, is_block_of, are_numbers};
 ghost use Rattle.workload_spec.specs.Grammar.{table_named, schema_at, formed, line_of, OfTable};
-ghost use Rattle.workload_spec.specs.Grammar.{OfKey, OfRow, OfBlock};
+ghost use Rattle.workload_spec.specs.Grammar.{OfKey, OfRow, OfBlock, OfBegin, OfRange, OfTotal};
+ghost use Rattle.workload_spec.specs.Grammar.{numbers_named};
 ghost use Rattle.word_read.specs.Cursor.{words_behind};
 ghost use Rattle.script_text.specs.Commands.{command_read, alone_read, keyed_row};
 ghost use Rattle.script_text.specs.Verbs.{verb_form};
@@ -15,13 +20,13 @@ ghost use Rattle.script_text.specs.Answers.{Gives};
 use crate::cells::row_of;
 use crate::declared::Declared;
 use crate::fault::WordFault;
-use crate::numbers::{first_number, key};
+use crate::numbers::{first_number, key, number_in};
 use crate::verbs::{Verb, takes, verb_of};
 use crate::words::{next_word, no_word};
-use cell_model::{Cell, Column, Row};
+use cell_model::{Cell, Column, Row, Values};
 use std::alloc::Global;
-use word_read::{natural, word_count};
-use workload_spec::{Cause, Command, Extent, Line};
+use word_read::{natural, word_behind, word_count};
+use workload_spec::{Cause, Command, Commands, Extent, Line};
 
 /// The line of a round that the bytes are: one of so many sessions and a command; an export only
 /// where none was before.
@@ -67,7 +72,9 @@ fn command_of(
         (command_read extent.now tables.now first.now (words_behind words.now)) }
 {
     match verb_of(first) {
-        Some(verb) if takes(&extent.commands, verb) => command_by(alloc, tables, verb, words),
+        Some(verb) if takes(&extent.commands, verb) => {
+            command_by(alloc, &extent.commands, tables, verb, words)
+        }
         _ => Err(WordFault::Bad(Cause::Command)),
     }
 }
@@ -75,16 +82,17 @@ fn command_of(
 /// The command of this first word with the words behind it.
 fn command_by(
     alloc: Global,
+    taken: &Commands,
     tables: &Declared,
     verb: Verb,
     words: &[u8],
 ) -> Result<Command, WordFault>
     requires { length tables.now < 2 ^ 32 }
     ensures { Gives (λ command. command) result
-        (formed tables.now (verb_form verb) (words_behind words.now)) }
+        (formed tables.now (verb_form taken.now verb) (words_behind words.now)) }
 {
     match verb {
-        Verb::Begin => alone(Command::Begin, words),
+        Verb::Begin => begin_in(taken.begin_checked, words),
         Verb::Get => key_in(tables, words).map(|x| Command::Get {
             table: x.0,
             key: x.1,
@@ -116,7 +124,63 @@ fn command_by(
             block: x.1,
         }),
         Verb::Export => table_in(tables, words).map(|table| Command::Export { table }),
+        Verb::Range => range_in(tables, words),
+        Verb::Total => total_in(tables, words),
     }
+}
+
+/// The begin of these words: checked behind the word `checked`, where that is taken.
+fn begin_in(takes_checked: bool, words: &[u8]) -> Result<Command, WordFault>
+    ensures { (tables : List TableValue) → Gives (λ made. made) result
+        (formed tables (OfBegin takes_checked) (words_behind words.now)) }
+{
+    match word_behind(words) {
+        None => Ok(Command::Begin { checked: false }),
+        Some((how, rest)) => {
+            if !takes_checked || how != b"checked".as_slice() {
+                return Err(WordFault::Bad(Cause::Command));
+            }
+            no_word(Cause::Command, rest)?;
+            Ok(Command::Begin { checked: true })
+        }
+    }
+}
+
+/// The range of the table and the two keys that the three words name.
+fn range_in(tables: &Declared, words: &[u8]) -> Result<Command, WordFault>
+    requires { length tables.now < 2 ^ 32 }
+    ensures { Gives (λ made. made) result (formed tables.now OfRange (words_behind words.now)) }
+{
+    let (name, rest) = next_word(Cause::Command, words)?;
+    let (low_word, rest) = next_word(Cause::Command, rest)?;
+    let (high_word, rest) = next_word(Cause::Command, rest)?;
+    no_word(Cause::Command, rest)?;
+    let table = table_named(tables, name)?;
+    let low = key(low_word)?;
+    let high = key(high_word)?;
+    Ok(Command::Range { table, low, high })
+}
+
+/// The total of the column and between the two numbers that the words behind the table's name.
+fn total_in(tables: &Declared, words: &[u8]) -> Result<Command, WordFault>
+    requires { length tables.now < 2 ^ 32 }
+    ensures { Gives (λ made. made) result (formed tables.now OfTotal (words_behind words.now)) }
+{
+    let (name, rest) = next_word(Cause::Command, words)?;
+    let (column_word, rest) = next_word(Cause::Command, rest)?;
+    let (low_word, rest) = next_word(Cause::Command, rest)?;
+    let (high_word, rest) = next_word(Cause::Command, rest)?;
+    no_word(Cause::Command, rest)?;
+    let table = table_named(tables, name)?;
+    let (column, its) = numbers_named(columns_at(tables, table), column_word)?;
+    let low = number_in(its, low_word)?;
+    let high = number_in(its, high_word)?;
+    Ok(Command::Total {
+        table,
+        column,
+        low,
+        high,
+    })
 }
 
 /// The command, where no word stands behind its first.
@@ -231,6 +295,51 @@ fn table_named(tables: &Declared, name: &[u8]) -> Result<u32, WordFault>
     }
 }
 
+/// The place of the column of this name, which has numbers, and the column.
+fn numbers_named<'a>(columns: &'a [Column], name: &[u8]) -> Result<(u32, &'a Column), WordFault>
+    requires { length columns.now < 2 ^ 32 }
+    ensures { Gives (λ x. (x.0, x.1.now.kind)) result (numbers_named columns.now name.now) }
+{
+    let Some(place) = column_named(columns, name) else {
+        return Err(WordFault::Bad(Cause::Column));
+    };
+    match columns.get(place as usize) {
+        Some(column) if has_numbers(column) => Ok((place, column)),
+        _ => Err(WordFault::Bad(Cause::Column)),
+    }
+}
+
+/// The place of the column of this name.
+fn column_named(columns: &[Column], name: &[u8]) -> Option<u32>
+    requires { length columns.now < 2 ^ 32 }
+    ensures { result ≡ place_of_name name.now columns.now }
+{
+    match place_of_column(columns, name) {
+        Some(place) => Some(place as u32),
+        None => None,
+    }
+}
+
+/// The place of the column of this name in the list.
+fn place_of_column(columns: &[Column], name: &[u8]) -> Option<usize>
+    ensures place { result ≡ place_of_name name.now columns.now }
+    ensures below { IfSome result (λ place. place < length columns.now) }
+{
+    columns
+        .iter()
+        .position(|column| column.name.as_slice() == name)
+}
+
+/// Whether the values of the column are numbers.
+fn has_numbers(column: &Column) -> bool
+    ensures { result ≡ are_numbers (values_of column.now.kind) }
+{
+    match column.kind.values() {
+        Values::Signed(_) | Values::Unsigned(_) => true,
+        Values::Truths | Values::Texts(_) | Values::Blobs(_) | Values::Strips(_) => false,
+    }
+}
+
 /// How many blocks the table at this place has.
 fn blocks_at(tables: &Declared, table: u32) -> u32
     ensures { (block : ℕ) → is_block_of tables.now table block ≡ nat_lt block result }
@@ -243,7 +352,8 @@ fn blocks_at(tables: &Declared, table: u32) -> u32
 
 /// The columns of the table at this place.
 fn columns_at(tables: &Declared, table: u32) -> &[Column]
-    ensures { result.now ≡ schema_at tables.now table }
+    ensures columns { result.now ≡ schema_at tables.now table }
+    ensures few { length result.now ≤ 32 }
 {
     match tables.get(table) {
         Some(declared) => declared.schema.columns(),

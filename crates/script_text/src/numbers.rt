@@ -1,12 +1,13 @@
 //! Numbers that a line of a workload is to have.
 ghost use Rattle.std.specs.Prelude.{◌≡◌};
 ghost use Rattle.workload_spec.specs.Reading.{words_of};
-ghost use Rattle.workload_spec.specs.Grammar.{number, key_in};
+ghost use Rattle.workload_spec.specs.Grammar.{number, key_in, number_in};
 ghost use Rattle.word_read.specs.Cursor.{words_behind};
 ghost use Rattle.script_text.specs.Answers.{Gives};
 
 use crate::fault::WordFault;
 use crate::words::next_word;
+use cell_model::Column;
 use word_read::{integer, natural_within, split_word};
 use workload_spec::Cause;
 
@@ -50,5 +51,16 @@ pub fn key(word: &[u8]) -> Result<i64, WordFault>
             Ok(key) => Ok(key),
             Err(_) => Err(WordFault::Bad(Cause::Number)),
         },
+    }
+}
+
+/// The number of the column's kind that the word spells.
+#[tactic(auto, using(crate::proofs::Keys::number_small))]
+pub fn number_in(column: &Column, word: &[u8]) -> Result<i128, WordFault>
+    ensures { Gives (λ number. number) result (number_in column.now.kind word.now) }
+{
+    match integer(word) {
+        Some(number) if column.kind.holds_integer(number) => Ok(number),
+        _ => Err(WordFault::Bad(Cause::Number)),
     }
 }

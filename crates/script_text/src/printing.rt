@@ -1,8 +1,10 @@
 //! The text of a script.
 ghost use Rattle.std.specs.Prelude.{◌≡◌, ◌++◌, ◌∷◌, [], codes, decimal, map, OnOk, IfOk};
 ghost use Rattle.std.specs.Fmt.{signed_decimal};
+ghost use Rattle.workload_spec.specs.declared.command.Command.TheVariants as command;
 ghost use Rattle.workload_spec.specs.Words.{cell_words, spaced, lines_text};
 ghost use Rattle.workload_spec.specs.ScriptText.{column_text, table_text, name_of_table};
+ghost use Rattle.workload_spec.specs.ScriptText.{name_of_column};
 ghost use Rattle.workload_spec.specs.ScriptText.{command_words, line_text, round_lines};
 ghost use Rattle.workload_spec.specs.ScriptText.{script_text};
 ghost use Rattle.script_text.specs.Rounds.{rounds_behind};
@@ -10,7 +12,10 @@ ghost use Rattle.word_text.specs.Words.{behind_spaces};
 
 use cell_model::{Bytes, Column, Row, TableDecl};
 use std::alloc::{AllocError, Global};
-use word_text::{put_cells, put_key, put_kind, put_natural, put_number, put_table_name, put_word};
+use word_text::{
+    put_cells, put_column_name, put_key, put_kind, put_natural, put_number, put_signed,
+    put_table_name, put_word,
+};
 use workload_spec::{Command, Line, Round, Script};
 
 /// The words of a command on a table.
@@ -75,15 +80,68 @@ fn put_of_block(
     put_number(out, block as u64)
 }
 
+/// The words of a begin.
+fn put_begin(out: &mut Vec<u8>, checked: bool) -> Result<(), AllocError>
+    ensures { OnOk result (out.new.items ≡ out.old.items
+        ++ behind_spaces (command_words [] (command.Begin checked))) }
+{
+    put_word(out, b"begin")?;
+    if checked {
+        put_word(out, b"checked")?;
+    }
+    Ok(())
+}
+
+/// The words of a range.
+fn put_range(
+    out: &mut Vec<u8>,
+    tables: &[TableDecl],
+    table: u32,
+    low: i64,
+    high: i64,
+) -> Result<(), AllocError>
+    ensures { OnOk result (out.new.items ≡ out.old.items ++ behind_spaces (codes "range"
+        ∷ name_of_table tables.now table ∷ signed_decimal low ∷ signed_decimal high ∷ [])) }
+{
+    put_of_key(out, b"range", tables, table, low)?;
+    put_key(out, high)
+}
+
+/// The words of a total.
+fn put_total(
+    out: &mut Vec<u8>,
+    tables: &[TableDecl],
+    table: u32,
+    column: u32,
+    low: i128,
+    high: i128,
+) -> Result<(), AllocError>
+    ensures { OnOk result (out.new.items ≡ out.old.items ++ behind_spaces (codes "total"
+        ∷ name_of_table tables.now table ∷ name_of_column tables.now table column
+        ∷ signed_decimal low ∷ signed_decimal high ∷ [])) }
+{
+    put_of_table(out, b"total", tables, table)?;
+    put_column_name(out, tables, table, column)?;
+    put_signed(out, low)?;
+    put_signed(out, high)
+}
+
 /// The words of a command, each behind a space.
 fn put_command(out: &mut Vec<u8>, tables: &[TableDecl], command: &Command) -> Result<(), AllocError>
     ensures { OnOk result (out.new.items ≡ out.old.items
         ++ behind_spaces (command_words tables.now command.now)) }
 {
     match command {
-        Command::Begin => put_word(out, b"begin"),
+        Command::Begin { checked } => put_begin(out, *checked),
         Command::Get { table, key } => put_of_key(out, b"get", tables, *table, *key),
         Command::Scan { table } => put_of_table(out, b"scan", tables, *table),
+        Command::Range { table, low, high } => put_range(out, tables, *table, *low, *high),
+        Command::Total {
+            table,
+            column,
+            low,
+            high,
+        } => put_total(out, tables, *table, *column, *low, *high),
         Command::Insert { table, row } => put_of_row(out, b"insert", tables, *table, row),
         Command::Update { table, row } => put_of_row(out, b"update", tables, *table, row),
         Command::Delete { table, key } => put_of_key(out, b"delete", tables, *table, *key),

@@ -21,6 +21,8 @@ pub enum Verb {
     Seal,
     Gather,
     Export,
+    Range,
+    Total,
 }
 
 /// The command whose first word this is. Its first letter leaves one command or two to compare
@@ -38,7 +40,9 @@ pub fn verb_of(word: &[u8]) -> Option<Verb>
         [b'i', ..] => spelled(Verb::Insert, word),
         [b'o', ..] => spelled(Verb::Observe, word),
         [b'p', ..] => spelled(Verb::Prune, word),
+        [b'r', ..] => spelled(Verb::Range, word),
         [b's', ..] => either(Verb::Scan, Verb::Seal, word),
+        [b't', ..] => spelled(Verb::Total, word),
         [b'u', ..] => spelled(Verb::Update, word),
         _ => None,
     }
@@ -85,6 +89,8 @@ fn verb_text(verb: Verb) -> &'static [u8]
         Verb::Seal => b"seal",
         Verb::Gather => b"gather",
         Verb::Export => b"export",
+        Verb::Range => b"range",
+        Verb::Total => b"total",
     }
 }
 
@@ -107,5 +113,7 @@ pub fn takes(taken: &Commands, verb: Verb) -> bool
         Verb::Seal => taken.seal,
         Verb::Gather => taken.gather,
         Verb::Export => taken.export,
+        Verb::Range => taken.range,
+        Verb::Total => taken.total,
     }
 }

@@ -12,7 +12,6 @@ use Rattle.block_spec.specs.Slots.{Row, Slot, seen as seen_in}
 use Rattle.cell_model.specs.declared.column.Column.{Column}
 use Rattle.cell_model.specs.Rows.{Fits}
 use Rattle.core_laws.proofs.Events.Fitting.{current_fits, seen_fits, versions_fit}
-use Rattle.event_spec.specs.declared.event.Event.TheVariants as event
 use Rattle.event_spec.specs.declared.own.OwnTransaction.{OwnTransaction}
 use Rattle.event_spec.specs.declared.reply.Reply.TheVariants as reply
 use Rattle.event_spec.specs.Lawful.{HasBlock}
@@ -27,13 +26,7 @@ use Rattle.isolation_spec.specs.Contents.{at_place, key_of, place_at}
 use Rattle.run_spec.specs.Occurrences.{Logged}
 use Rattle.run_spec.specs.Told.{rows_told}
 use Rattle.store_laws.specs.Logs.{made_in}
-use Rattle.store_laws.specs.Own.{entry_of, parts_after}
-use Rattle.shared_store.specs.Making.{Makes}
-use Rattle.shared_store.specs.Reading.{ReadsBlock}
-use Rattle.shared_store.specs.Store.{IsAt, IsSession, StoreView, own_of, seen, shape_in}
-use Rattle.shared_store.specs.declared.session.Session.{Session}
-use Rattle.shared_store.proofs.Calls.{told_or_memory}
-use Rattle.shared_store.proofs.Sessions.{session_is}
+use Rattle.store_laws.specs.Own.{parts_after}
 
 -- ---- rows that are kept
 

@@ -2,14 +2,13 @@
 use Rattle.std.proofs.Common.{◌≡◌, ◌⊎◌, ℕ, Bool, true, false, cond, not, ◌+◌, List, [], ◌∷◌, ◌++◌, Option, None, Some, length, option_map, is_some, refl, sym, ap, subst, ◌∙◌, append-nil, true≢false, ℤ, arith}
 use mathlib.Core.Logic.{inl, inr}
 use Rattle.core_laws.specs.Words.Words.{thawed_part}
-use Rattle.event_spec.specs.declared.event.Event.TheVariants as event
 use Rattle.event_spec.specs.declared.own.OwnTransaction.{OwnTransaction}
 use Rattle.event_spec.specs.declared.reply.Reply.TheVariants as reply
 use Rattle.event_spec.specs.Effects.{CoreEvent}
 use Rattle.event_spec.specs.Parts.{Shape}
 use Rattle.event_spec.specs.Replies.{CoreReply}
 use Rattle.run_spec.specs.Asked.{events_of}
-use Rattle.run_spec.specs.Calls.{IsCallBy, is_memory, may_lack_memory}
+use Rattle.run_spec.specs.Calls.{IsCallBy, is_memory, may_lack_memory, reads_behind}
 use Rattle.run_spec.specs.Handed.{Called, own_in}
 use Rattle.run_spec.specs.Occurrences.{Logged, Occurrence}
 use Rattle.run_spec.specs.Opened.{own_after}
@@ -37,7 +36,7 @@ use Rattle.store_laws.proofs.Going.{keys}
 use Rattle.store_laws.specs.OwnLaws.{HasOpened}
 use Rattle.run_spec.specs.Opened.{own_behind, own_key}
 use Rattle.shared_store.specs.Making.{FitsEach, Makes, MayMake, parts_seen}
-use Rattle.shared_store.specs.Store.{Answers, EndsCall, EndsWithLast, HandsView, HasRoomFor, IsAt, IsSession, SeatView, StoreView, TookPartsOf, events_made, opened_at, own_of, seen, shape_in, taken_by}
+use Rattle.shared_store.specs.Store.{Answers, EndsCall, EndsWithLast, HandsView, HasRoomFor, IsAt, IsSession, SeatView, StoreView, TookPartsOf, events_made, opened_at, own_of, seen, shape_in, taken_by, reads_of}
 use Rattle.isolation_spec.specs.Contents.{PlaceMap, at_place, place_at}
 use Rattle.isolation_spec.specs.declared.place.Place.{Place}
 use Rattle.shared_store.specs.declared.session.Session.{Session}
@@ -48,26 +47,28 @@ use Rattle.std.specs.List.{last_or}
 use Rattle.run_spec.specs.Calls.{is_refused}
 use Rattle.store_laws.specs.Own.{entry_of, occurrence_at, parts_after}
 use Rattle.store_laws.proofs.Calling.{single_events_are_calls}
+use Rattle.shared_store.specs.Reads.{ReadsFit}
+use Rattle.isolation_spec.specs.Reads.{ReadSet}
 
 -- a call without an event, of one whose own stays
 module _ (shape : Shape) (session : ℕ) (old : List Logged) (own : Option OwnTransaction) (own_is : own ≡ own_after (own_in shape session old)) where
   -- a command that is refused is a call without an event
-  pub refused_call : (command : Command) (line : Said) → refusal_of command own ≡ Some line
-      → Called shape false session old old (record { command = command; made = []; told = Some line })
-  refused_call command line refused = record {
+  pub refused_call : (reads : Option ReadSet) (command : Command) (line : Said) → refusal_of command own ≡ Some line
+      → Called shape false session old old (record { command = command; made = []; told = Some line; reads = reads })
+  refused_call reads command line refused = record {
     stretch = nothing_is_a_stretch shape session old old ([], sym (append-nil old)) refl;
-    is_call = subst (λ o. IsCallBy shape false session o (refusal_of command o) (record { command = command; made = []; told = Some line })) own_is
-        (subst (λ r. IsCallBy shape false session own r (record { command = command; made = []; told = Some line })) (sym refused) (refl, refl));
+    is_call = subst (λ o. IsCallBy shape false session o (refusal_of command o) (record { command = command; made = []; told = Some line; reads = reads })) own_is
+        (subst (λ r. IsCallBy shape false session own r (record { command = command; made = []; told = Some line; reads = reads })) (sym refused) (refl, refl));
   }
 
   -- a command that found no memory before its first event
-  pub unmade_call : (command : Command) → refusal_of command own ≡ None → may_lack_memory command ≡ true
-      → Called shape false session old old (record { command = command; made = []; told = Some said.Memory })
-  unmade_call command granted may = record {
+  pub unmade_call : (reads : Option ReadSet) (command : Command) → refusal_of command own ≡ None → may_lack_memory command ≡ true
+      → Called shape false session old old (record { command = command; made = []; told = Some said.Memory; reads = reads })
+  unmade_call reads command granted may = record {
     stretch = nothing_is_a_stretch shape session old old ([], sym (append-nil old)) refl;
-    is_call = subst (λ o. IsCallBy shape false session o (refusal_of command o) (record { command = command; made = []; told = Some said.Memory })) own_is
-        (subst (λ r. IsCallBy shape false session own r (record { command = command; made = []; told = Some said.Memory })) (sym granted)
-        (inr (record { may = may; missed = events_of shape own session command []; events = refl; cut = refl; line = refl })));
+    is_call = subst (λ o. IsCallBy shape false session o (refusal_of command o) (record { command = command; made = []; told = Some said.Memory; reads = reads })) own_is
+        (subst (λ r. IsCallBy shape false session own r (record { command = command; made = []; told = Some said.Memory; reads = reads })) (sym granted)
+        (inr (record { may = may; missed = events_of shape own reads session command []; events = refl; cut = refl; line = refl })));
   }
 
 -- no part was taken
@@ -81,16 +82,19 @@ pub one_event_at : (store : StoreView) (old new : Session) (command : Command) (
     → (m : Makes store old.session old.pass.seat new.pass.seat new.pass.hands (own_of old) e told)
     → new.session ≡ old.session
     → own_of new ≡ own_behind (own_of old) e told
+    → reads_of new ≡ reads_behind (reads_of old) command line
+    → ReadsFit (shape_in store) (reads_of new)
     → refusal_of command (own_of old) ≡ None
-    → events_of (shape_in store) (own_of old) old.session command (occurrence_at old.session (parts_after (shape_in store) m.makes.before) e told ∷ []) ≡ e ∷ []
+    → events_of (shape_in store) (own_of old) (reads_of old) old.session command (occurrence_at old.session (parts_after (shape_in store) m.makes.before) e told ∷ []) ≡ e ∷ []
     → TellsLine (own_of old) command told line
     → IsSession store new × Answers store old new command line
-one_event_at store old new command e told line is other m same own_now granted events tells = (
+one_event_at store old new command e told line is other m same own_now keeps fits granted events tells = (
   session_is store new (subst (λ q. IsAt store q new.pass.seat new.pass.hands (own_of new)) (sym same)
-      (subst (IsAt store old.session new.pass.seat new.pass.hands) (sym own_now) m.stands)),
+      (subst (IsAt store old.session new.pass.seat new.pass.hands) (sym own_now) m.stands)) fits,
   record {
+    keeps = keeps;
     made = occurrence_at old.session (parts_after (shape_in store) m.makes.before) e told ∷ [];
-    called = single_events_are_calls (shape_in store) old.session (seen old) (seen new) (own_of old) command e told line is.own granted m.makes events tells unshared;
+    called = single_events_are_calls (shape_in store) old.session (seen old) (seen new) (own_of old) (reads_of old) command e told line is.own granted m.makes events tells unshared;
     count = m.count ∙ ap (λ b. events_made old + (0 + cond {A = ℕ} (not b) 1 0)) (sym unshared);
     ends = λ event' last. (m.makes.before, m.makes.log);
     reads = keeps_same m.reads;
@@ -108,23 +112,27 @@ pub one_event : (store : StoreView) (old new : Session) (command : Command) (e :
     → Makes store old.session old.pass.seat new.pass.seat new.pass.hands (own_of old) e told
     → new.session ≡ old.session
     → own_of new ≡ own_behind (own_of old) e told
+    → reads_of new ≡ reads_behind (reads_of old) command line
+    → ReadsFit (shape_in store) (reads_of new)
     → refusal_of command (own_of old) ≡ None
-    → ((events : List Occurrence) → events_of (shape_in store) (own_of old) old.session command events ≡ e ∷ [])
+    → ((events : List Occurrence) → events_of (shape_in store) (own_of old) (reads_of old) old.session command events ≡ e ∷ [])
     → TellsLine (own_of old) command told line
     → IsSession store new × Answers store old new command line
-one_event store old new command e told line is other m same own_now granted events tells =
-    one_event_at store old new command e told line is other m same own_now granted
+one_event store old new command e told line is other m same own_now keeps fits granted events tells =
+    one_event_at store old new command e told line is other m same own_now keeps fits granted
     (events (occurrence_at old.session (parts_after (shape_in store) m.makes.before) e told ∷ [])) tells
 
 -- A call without an event leaves the session as it was.
-pub no_event : (store : StoreView) (s : Session) (command : Command) (line : Said) → IsSession store s → refusal_of command (own_of s) ≡ Some line → Answers store s s command line
-no_event store s command line is refused = record {
+pub no_event : (store : StoreView) (s : Session) (command : Command) (line : Said) → IsSession store s → refusal_of command (own_of s) ≡ Some line
+    → reads_of s ≡ reads_behind (reads_of s) command line → Answers store s s command line
+no_event store s command line is refused keeps = record {
   made = [];
-  called = refused_call (shape_in store) s.session (seen s) (own_of s) is.own command line refused;
+  keeps = keeps;
+  called = refused_call (shape_in store) s.session (seen s) (own_of s) is.own (reads_of s) command line refused;
   count = omega arith;
   ends = tt;
   reads = keeps_stays;
-  took = took_none (shape_in store) (events_of (shape_in store) (own_of s) s.session command []) (seen s) (taken_by s);
+  took = took_none (shape_in store) (events_of (shape_in store) (own_of s) (reads_of s) s.session command []) (seen s) (taken_by s);
 }
 
 -- The session's pass may make an event that stands by what it has open and fits each core.
@@ -197,14 +205,15 @@ told_or_memory store session old new hands own e told m = go (is_memory told) re
 
 -- a command that found no memory before its first event leaves the session as it was
 pub unmade : (store : StoreView) (s : Session) (writes : PlaceMap ℕ) (command : Command) → IsSession store s → refusal_of command (own_of s) ≡ None → may_lack_memory command ≡ true
-    → Answers store s (record { pass = s.pass; session = s.session; snapshot = s.snapshot; writes = writes }) command said.Memory
+    → Answers store s (record { pass = s.pass; session = s.session; snapshot = s.snapshot; writes = writes; reads = s.reads }) command said.Memory
 unmade store s writes command is granted may = record {
   made = [];
-  called = unmade_call (shape_in store) s.session (seen s) (own_of s) is.own command granted may;
+  keeps = refl;
+  called = unmade_call (shape_in store) s.session (seen s) (own_of s) is.own (reads_of s) command granted may;
   count = omega arith;
   ends = tt;
   reads = keeps_stays;
-  took = took_none (shape_in store) (events_of (shape_in store) (own_of s) s.session command []) (seen s) (taken_by s);
+  took = took_none (shape_in store) (events_of (shape_in store) (own_of s) (reads_of s) s.session command []) (seen s) (taken_by s);
 }
 
 -- whether the row of an event's key was written
@@ -227,10 +236,10 @@ written_there s t table key place handed had open' is has there =
     go (Some sn) e = ap (λ (x : OwnTransaction). x.writes) (some_is (opened_at s.session s.writes sn) t e)
 
 -- a begin is refused where something is open
-pub begin_refused : (s : Session) → is_some s.snapshot ≡ true → refusal_of Begin (own_of s) ≡ Some said.InTransaction
-begin_refused s open' = go s.snapshot open'
+pub begin_refused : (s : Session) (checked : Bool) → is_some s.snapshot ≡ true → refusal_of (Begin checked) (own_of s) ≡ Some said.InTransaction
+begin_refused s checked open' = go s.snapshot open'
   where
-    go : (o : Option Snapshot) → is_some o ≡ true → refusal_of Begin (option_map (opened_at s.session s.writes) o) ≡ Some said.InTransaction
+    go : (o : Option Snapshot) → is_some o ≡ true → refusal_of (Begin checked) (option_map (opened_at s.session s.writes) o) ≡ Some said.InTransaction
     go None h = absurd (true≢false (sym h))
     go (Some x) h = refl
 
@@ -243,6 +252,7 @@ write_unshared (reply.Refused fault) is = refl
 write_unshared (reply.Rows rows) is = refl
 write_unshared (reply.Shared rows) is = absurd is
 write_unshared (reply.Committed number) is = refl
+write_unshared (reply.Stale what number) is = refl
 write_unshared reply.Aborted is = refl
 write_unshared (reply.Oldest stamp) is = refl
 write_unshared (reply.Turned turned) is = refl

@@ -27,7 +27,7 @@ use Rattle.isolation_spec.specs.declared.place.Place.{Place}
 use Rattle.store_laws.proofs.Going.{keys}
 use Rattle.store_laws.specs.OwnLaws.{HasOpened}
 use Rattle.run_spec.specs.Asked.{events_of, imaged_block, parts_before, thaws}
-use Rattle.run_spec.specs.Calls.{Call, IsCallBy, IsPart, IsWhole, is_final, is_memory}
+use Rattle.run_spec.specs.Calls.{Call, IsCallBy, IsPart, IsWhole, is_final, is_memory, reads_behind}
 use Rattle.run_spec.specs.Handed.{GoesOn, own_in}
 use Rattle.run_spec.specs.Occurrences.{Logged, Occurrence, events_in, replies_in}
 use Rattle.run_spec.specs.Opened.{own_behind, own_key}
@@ -46,7 +46,7 @@ use Rattle.workload_spec.specs.declared.reply.Said.{Said}
 use Rattle.workload_spec.specs.declared.reply.Said.TheVariants as said
 use Rattle.shared_store.specs.Changing.{Changes, ChangesHeld, HasMade, IsChangeBy, IsChangeOf, IsChangeTo}
 use Rattle.shared_store.specs.Making.{Gives, IsFew, MakesHeld, MayMakeHeld, MayThawHeld, Takes, parts_seen}
-use Rattle.shared_store.specs.Store.{Answers, EndsWithLast, HandsView, IsAt, IsSession, IsWithin, SeatView, StoreView, TookPartsOf, own_of, seen, shape_in, taken_by}
+use Rattle.shared_store.specs.Store.{Answers, EndsWithLast, HandsView, IsAt, IsSession, IsWithin, SeatView, StoreView, TookPartsOf, own_of, seen, shape_in, taken_by, reads_of}
 use Rattle.shared_store.specs.Writing.{IsWriteReply, is_written}
 use Rattle.shared_store.specs.declared.session.Session.{Session}
 use Rattle.shared_store.proofs.Along.{change_along, nothing_along}
@@ -61,6 +61,7 @@ use Rattle.run_spec.specs.Told.{is_shared}
 use Rattle.store_laws.proofs.Lends.{no_image_told}
 use Rattle.store_laws.proofs.Stretches.{events_are_a_stretch}
 use Rattle.shared_store.proofs.Wrote.{writes_reply}
+use Rattle.shared_store.specs.Reads.{ReadsFit}
 
 -- ---- what may be made on the parts of a change
 
@@ -340,10 +341,10 @@ change_few sh place write made told has = go (option_and_then (imaged_block sh p
 -- the session behind a change
 pub changed_session : (store : StoreView) (old new : Session) (place : Place) (write : CoreEvent) (told : CoreReply)
     → Changes store old.session old.pass.seat new.pass.seat new.pass.hands (own_of old) place write told
-    → new.session ≡ old.session → own_of new ≡ own_behind (own_of old) write told → IsSession store new
-changed_session store old new place write told m same own_now =
+    → new.session ≡ old.session → own_of new ≡ own_behind (own_of old) write told → ReadsFit (shape_in store) (reads_of new) → IsSession store new
+changed_session store old new place write told m same own_now fits =
     session_is store new (subst (λ q. IsAt store q new.pass.seat new.pass.hands (own_of new)) (sym same)
-    (subst (IsAt store old.session new.pass.seat new.pass.hands) (sym own_now) m.stands))
+    (subst (IsAt store old.session new.pass.seat new.pass.hands) (sym own_now) m.stands)) fits
 
 -- and what it answers
 pub changed_call : (store : StoreView) (old new : Session) (place : Place) (write : CoreEvent) (told : CoreReply) (asked : Command) (line : Said)
@@ -351,9 +352,11 @@ pub changed_call : (store : StoreView) (old new : Session) (place : Place) (writ
     → Changes store old.session old.pass.seat new.pass.seat new.pass.hands (own_of old) place write told
     → IsChangeBy (shape_in store) old.session (own_of old) place write asked
     → told_by place.table 0 told ≡ Some line
+    → reads_of new ≡ reads_behind (reads_of old) asked line
     → Answers store old new asked line
-changed_call store old new place write told asked line is m by tells = record {
+changed_call store old new place write told asked line is m by tells keeps = record {
   made = made;
+  keeps = keeps;
   called = record {
     stretch = events_are_a_stretch shape old.session (seen old) (seen new) made m.change.goes_on m.change.own m.change.events;
     is_call = subst (λ (o : Option OwnTransaction). IsCallBy shape false old.session o (refusal_of asked o) call) is.own
@@ -362,7 +365,7 @@ changed_call store old new place write told asked line is m by tells = record {
   count = let all = all_events made m.change.events in let n = m.change.count in omega (arith, all, n);
   ends = ends_call line made (seen new) m.change.ends;
   reads = keeps_same m.change.reads;
-  took = subst (λ (es : List CoreEvent). TookPartsOf shape es (seen old) (seen new) (taken_by old) (taken_by new)) (sym (by.events made)) m.took;
+  took = subst (λ (es : List CoreEvent). TookPartsOf shape es (seen old) (seen new) (taken_by old) (taken_by new)) (sym (by.events (reads_of old) made)) m.took;
 }
   where
     shape : Shape
@@ -372,7 +375,7 @@ changed_call store old new place write told asked line is m by tells = record {
     made = m.change.made
 
     call : Call
-    call = record { command = asked; made = made; told = Some line }
+    call = record { command = asked; made = made; told = Some line; reads = reads_of old }
 
     some_is : (a b : Said) → Some a ≡ Some b → a ≡ b
     some_is a b e = cc
@@ -381,14 +384,14 @@ changed_call store old new place write told asked line is m by tells = record {
     go true memory = inr (record {
       may = by.may;
       missed = m.change.has_made.missed;
-      events = by.events made ∙ m.change.has_made.events;
+      events = by.events (reads_of old) made ∙ m.change.has_made.events;
       cut = m.change.has_made.refused memory;
       line = ap (λ (x : Said). Some x) (some_is line said.Memory (sym tells ∙ ap (told_by place.table 0) (memory_is told memory)));
     })
     go false granted =
         let whole = m.change.has_made.granted granted in
         inl (record {
-          events = sym (by.events made ∙ m.change.has_made.events ∙ ap (λ (es : List CoreEvent). events_in made ++ es) whole.0 ∙ append-nil (events_in made));
+          events = sym (by.events (reads_of old) made ∙ m.change.has_made.events ∙ ap (λ (es : List CoreEvent). events_in made ++ es) whole.0 ∙ append-nil (events_in made));
           granted = whole.1;
           line = sym (by.line (replies_in made) ∙ ap (option_and_then (told_by place.table 0)) m.change.has_made.last ∙ tells);
         })
@@ -438,10 +441,10 @@ module _ (store : StoreView) (s : Session) (own : OwnTransaction) (is : IsSessio
 
   -- to the machine an update is a change to its row, and a delete to none
   pub update_to : (table : ℕ) (row : Row) → IsChangeTo s.session (place_of table row) (Some row) (event.Update (own_key table (key_of row) own) table row)
-  update_to table row = record { asks = ap (λ q. Some (command_of q (act.Update table row))) (own_stands store s own is some').0; there = refl }
+  update_to table row = record { asks = ap (λ q. Some (command_of q (act.Update table row))) (own_stands store s own is some').0; there = refl; unread = refl }
 
   pub delete_to : (table : ℕ) (key : ℤ) → IsChangeTo s.session (place_at table key) None (event.Delete (own_key table key own) table key)
-  delete_to table key = record { asks = ap (λ q. Some (command_of q (act.Delete table key))) (own_stands store s own is some').0; there = tt }
+  delete_to table key = record { asks = ap (λ q. Some (command_of q (act.Delete table key))) (own_stands store s own is some').0; there = tt; unread = refl }
 
   -- the command to update is this change, with its events and its line
   pub update_by : (table : ℕ) (row : Row)
@@ -449,7 +452,7 @@ module _ (store : StoreView) (s : Session) (own : OwnTransaction) (is : IsSessio
   update_by table row = record {
     granted = ap (refusal_of (command.Update table row)) some';
     may = refl;
-    events = λ made. ap (λ (o : Option OwnTransaction). events_of st o s.session (command.Update table row) made) some';
+    events = λ reads made. ap (λ (o : Option OwnTransaction). events_of st o reads s.session (command.Update table row) made) some';
     line = λ replies. refl;
   }
 
@@ -459,6 +462,6 @@ module _ (store : StoreView) (s : Session) (own : OwnTransaction) (is : IsSessio
   delete_by table key = record {
     granted = ap (refusal_of (command.Delete table key)) some';
     may = refl;
-    events = λ made. ap (λ (o : Option OwnTransaction). events_of st o s.session (command.Delete table key) made) some';
+    events = λ reads made. ap (λ (o : Option OwnTransaction). events_of st o reads s.session (command.Delete table key) made) some';
     line = λ replies. refl;
   }

@@ -1,5 +1,5 @@
 -- What a pass has lent, from one call to the next.
-use Rattle.std.proofs.Common.{◌≡◌, ℕ, ap, refl, sym, ◌∙◌}
+use Rattle.std.proofs.Common.{◌≡◌, ℕ, refl, sym, ◌∙◌}
 use Rattle.event_spec.specs.Effects.{CoreEvent}
 use Rattle.hall_rule.specs.declared.view.View.{View}
 use Rattle.hall_steps.specs.Hall.{SameClaim}

@@ -31,7 +31,7 @@ use Rattle.workload_spec.specs.declared.command.Command.TheVariants.{Compact}
 use Rattle.workload_spec.specs.declared.reply.Said.TheVariants as said
 use Rattle.shared_store.specs.Compacting.{AddsLook, HaveLooked, Looks, MovesRows, PlansMoves, PlansTable, look_of, looking, move_reply}
 use Rattle.shared_store.specs.Reading.{Went}
-use Rattle.shared_store.specs.Store.{Answers, IsSession, IsTouched, MakesAtMost, StoreView, events_made, own_of, seen, shape_in}
+use Rattle.shared_store.specs.Store.{Answers, IsSession, IsTouched, MakesAtMost, StoreView, events_made, own_of, seen, shape_in, reads_of}
 use Rattle.shared_store.specs.Sweeping.{MakesAlone, Sweeps}
 use Rattle.shared_store.specs.Told.{compacted_told}
 use Rattle.shared_store.specs.declared.session.Session.{Session}
@@ -111,6 +111,7 @@ went_wider store old new events more made w = record {
   session = w.session;
   same = w.same;
   opened = w.opened;
+  kept = w.kept;
   stretch = w.stretch;
   count = w.count;
   ends = w.ends;
@@ -176,7 +177,7 @@ module _ (store : StoreView) (t : ℕ) where
   -- A compaction that was cut short after some looks answers that there was no memory.
   lost : (old new : Session) (k : ℕ) (made : List Occurrence) → IsSession store old → k ≤ blocks_of sh t → Went store old new asked made
       → events_in made ≡ map (looking t) (below k) → is_cut_short made ≡ true → Answers store old new (Compact t) said.Memory
-  lost old new k made is le w events cut = went_call store old new (Compact t) (asked ++ moved_by made) made said.Memory is (went_wider store old new asked (moved_by made) made w) refl refl (inr (record {
+  lost old new k made is le w events cut = went_call store old new (Compact t) (asked ++ moved_by made) made said.Memory is (went_wider store old new asked (moved_by made) made w) refl refl refl (inr (record {
     may = refl;
     missed = map (looking t) rest ++ moved_by made;
     events = ap (λ (es : List CoreEvent). es ++ moved_by made)
@@ -193,7 +194,7 @@ module _ (store : StoreView) (t : ℕ) where
   pub looks_lost : (old mid new : Session) (k : ℕ) (looks : List BlockLook) (told : CoreReply) → IsSession store old → k < blocks_of sh t → Looks store old mid t k looks
       → MakesAlone store mid new (looking t k) told → Answers store old new (Compact t) said.Memory
   looks_lost old mid new k looks told is lt s m = lost old new (k + 1) (s.made ++ last ∷ []) is (omega (arith, lt))
-      (went_more store old mid new (looking t k) told asked s.made s.went m.session m.same m.opened m.makes.makes m.makes.count m.makes.took (is_asked k lt) refl (keeps_same m.makes.reads))
+      (went_more store old mid new (looking t k) told asked s.made s.went m.session m.same m.opened m.kept m.makes.makes m.makes.count m.makes.took (is_asked k lt) refl (keeps_same m.makes.reads))
       (map-append (λ (o : Occurrence). o.event) s.made (last ∷ []) ∙ ap (λ (es : List CoreEvent). es ++ looking t k ∷ []) s.events_are ∙ block_more sh looking t k)
       (plain_cut_behind s.made last s.plain refl)
     where
@@ -209,7 +210,7 @@ module _ (store : StoreView) (t : ℕ) where
   module _ (old mid : Session) (looks : List BlockLook) (is : IsSession store old) (s : Looks store old mid t (blocks_of sh t) looks) where
     -- there is none
     pub unmoved : plan_of looks ≡ [] → Answers store old mid (Compact t) (said.Moved 0)
-    unmoved none' = went_call store old mid (Compact t) (asked ++ moved_by s.made) s.made (said.Moved 0) is (went_wider store old mid asked (moved_by s.made) s.made s.went) refl refl (inl (record {
+    unmoved none' = went_call store old mid (Compact t) (asked ++ moved_by s.made) s.made (said.Moved 0) is (went_wider store old mid asked (moved_by s.made) s.made s.went) refl refl refl (inl (record {
       events = s.events_are ∙ sym (append-nil asked) ∙ ap (λ (pairs : List MovePair). asked ++ moves t pairs) (sym (ap plan_of (sym s.told.looks_are) ∙ none'));
       granted = plain_granted s.made s.plain;
       line = ap (λ n. Some (said.Moved n)) (sym s.told.unmoved);
@@ -226,13 +227,13 @@ module _ (store : StoreView) (t : ℕ) where
       made = s.made ++ last ∷ []
 
       went : Went store old new (asked ++ move ∷ []) made
-      went = went_more store old mid new move told (asked ++ move ∷ []) s.made (went_wider store old mid asked (move ∷ []) s.made s.went) m.session m.same m.opened m.makes.makes m.makes.count m.makes.took
+      went = went_more store old mid new move told (asked ++ move ∷ []) s.made (went_wider store old mid asked (move ∷ []) s.made s.went) m.session m.same m.opened m.kept m.makes.makes m.makes.count m.makes.took
           (among_last asked move) refl (keeps_same m.makes.reads)
 
       planned_same : plan_of (looks_in made) ≡ pair ∷ pairs
       planned_same = ap plan_of (filter_map-append (λ (o : Occurrence). look_told o.event o.reply) s.made (last ∷ []) ∙ append-nil (looks_in s.made) ∙ sym s.told.looks_are) ∙ plan
 
-      asks : events_of sh (own_of old) old.session (Compact t) made ≡ asked ++ move ∷ []
+      asks : events_of sh (own_of old) (reads_of old) old.session (Compact t) made ≡ asked ++ move ∷ []
       asks = ap (λ (pairs : List MovePair). asked ++ moves t pairs) planned_same
 
       events : events_in made ≡ asked ++ move ∷ []
@@ -240,7 +241,7 @@ module _ (store : StoreView) (t : ℕ) where
 
       -- a compaction whose move was made answers with how many rows moved
       pub moved : (count : ℕ) → told ≡ reply.Moved count → Answers store old new (Compact t) (said.Moved count)
-      moved count told_is = went_call store old new (Compact t) (asked ++ move ∷ []) made (said.Moved count) is went asks refl (inl (record {
+      moved count told_is = went_call store old new (Compact t) (asked ++ move ∷ []) made (said.Moved count) is went asks refl refl (inl (record {
         events = events ∙ sym asks;
         granted = list_any-append is_refused s.made (last ∷ []) ∙ ap (λ b. b || list_any is_refused (last ∷ [])) (plain_granted s.made s.plain) ∙ ap (λ r. is_memory r || false) told_is;
         line = ap (λ n. Some (said.Moved n)) (sym sum);
@@ -256,7 +257,7 @@ module _ (store : StoreView) (t : ℕ) where
 
       -- the move was refused memory
       pub move_lost : told ≡ reply.Memory → Answers store old new (Compact t) said.Memory
-      move_lost told_is = went_call store old new (Compact t) (asked ++ move ∷ []) made said.Memory is went asks refl (inr (record {
+      move_lost told_is = went_call store old new (Compact t) (asked ++ move ∷ []) made said.Memory is went asks refl refl (inr (record {
         may = refl;
         missed = [];
         events = asks ∙ sym events ∙ sym (append-nil (events_in made));

@@ -1,14 +1,11 @@
 -- A lend that was given back: the block is imaged as before, and its rows are those that were lent.
-use Rattle.std.proofs.Common.{◌≡◌, ℕ, suc, ◌+◌, ◌*◌, ◌^◌, ◌<◌, List, Option, Some, length, refl, sym, ap, subst, ◌∙◌, arith}
-use Rattle.std.specs.Prelude.{slice_get}
+use Rattle.std.proofs.Common.{◌≡◌, ℕ, suc, ◌+◌, List, Option, length, sym, ap, subst, ◌∙◌, arith}
 use Rattle.block_spec.specs.Bodies.{rows_of}
 use Rattle.block_spec.specs.declared.phase.Phase.TheVariants.{Imaged}
-use Rattle.core_laws.specs.Frozen.Laws.{stamp_of}
-use Rattle.core_laws.proofs.Frozen.Frozen.{frozen_is_settled}
 use Rattle.core_parts.proofs.Placing.{number_less}
 use Rattle.event_spec.specs.declared.own.OwnTransaction.{OwnTransaction}
 use Rattle.event_spec.specs.Effects.{CoreEvent}
-use Rattle.event_spec.specs.Parts.{BodyOf, body_at, names}
+use Rattle.event_spec.specs.Parts.{BodyOf, body_at}
 use Rattle.hall_rule.specs.Hands.{Holds}
 use Rattle.hall_rule.specs.Views.{left}
 use Rattle.hall_rule.specs.declared.view.Entry.{Entry}
@@ -23,16 +20,17 @@ use Rattle.store_laws.specs.Logs.{log_of, made_in, store_meaning}
 use Rattle.store_laws.specs.Own.{parts_after}
 use Rattle.event_spec.specs.Replay.{IsLawfulLog}
 use Rattle.shared_store.specs.Lending.{EndsLend, HasImage, HasLent, LendView}
-use Rattle.shared_store.specs.Store.{HandsView, IsAt, IsSession, IsWithin, SeatView, StoreView, own_of, seen, shape_in, view_of}
+use Rattle.shared_store.specs.Store.{HandsView, IsAt, IsSession, IsWithin, SeatView, StoreView, own_of, seen, shape_in, view_of, reads_of}
 use Rattle.shared_store.specs.declared.session.Session.{Session}
-use Rattle.shared_store.proofs.Lent.{claim_tells, image_there, left_holds, left_parts, left_within, rows_stay}
+use Rattle.shared_store.proofs.Lent.{claim_tells, image_there, left_holds, left_within, rows_stay}
 use Rattle.shared_store.proofs.Open.{sees_on as stays_on}
 use Rattle.shared_store.proofs.Sessions.{session_is}
+use Rattle.shared_store.specs.Reads.{ReadsFit}
 
 module _ (store : StoreView) (old new : Session) (lend : LendView) (t : SeatView) (hands : HandsView) (is : IsSession store old)
     (there : IsPass (store_meaning (shape_in store)) store.id t hands) (looks : Looks (store_meaning (shape_in store)) old.pass.seat t) (held : hands ≡ old.pass.hands)
     (gone : IsPass (store_meaning (shape_in store)) store.id new.pass.seat new.pass.hands) (view : new.pass.seat.me.0 ≡ left t.me.0) (kept : new.pass.hands ≡ hands)
-    (same : new.session ≡ old.session) (opened : own_of new ≡ own_of old) (took : t.me.0.taken ≡ old.pass.seat.me.0.taken) (anew : t.me.0.looks ≡ old.pass.seat.me.0.looks + 1)
+    (same : new.session ≡ old.session) (opened : own_of new ≡ own_of old) (kept_reads : reads_of new ≡ reads_of old) (took : t.me.0.taken ≡ old.pass.seat.me.0.taken) (anew : t.me.0.looks ≡ old.pass.seat.me.0.looks + 1)
   where
     -- The look shows what was made since.
     on : SeesOn (shape_in store) old.session old.pass.seat.me.0 t.me.0 (own_of old)
@@ -53,7 +51,7 @@ module _ (store : StoreView) (old new : Session) (lend : LendView) (t : SeatView
         (subst (IsAt store old.session new.pass.seat new.pass.hands) (sym opened) (record {
           within = behind;
           empty = subst (λ (hs : HandsView). (k : ℕ) → ¬ Holds (first_of hs) k) (sym (kept ∙ held)) is.stands.empty;
-        })))
+        }))) (subst (ReadsFit (shape_in store)) (sym kept_reads) is.fits)
 
     log : new.pass.seat.me.0.log ≡ t.me.0.log
     log = ap (λ (v : View CoreEvent). v.log) view
@@ -93,6 +91,7 @@ module _ (store : StoreView) (old new : Session) (lend : LendView) (t : SeatView
       session = session;
       same = same;
       opened = opened;
+      kept = kept_reads;
       sees = goes;
       own = own;
       made = ap (λ (es : List (Entry CoreEvent)). length es) (ap (λ (v : View CoreEvent). v.mine) view ∙ looks.1.mine);

@@ -33,6 +33,7 @@ is_refused_for (reply.Refused refused) fault is = ap reply.Refused (same_Some re
 is_refused_for (reply.Rows rows) fault is = absurd (let no : ⊥ = cc in no)
 is_refused_for (reply.Shared rows) fault is = absurd (let no : ⊥ = cc in no)
 is_refused_for (reply.Committed number) fault is = absurd (let no : ⊥ = cc in no)
+is_refused_for (reply.Stale what number) fault is = absurd (let no : ⊥ = cc in no)
 is_refused_for reply.Aborted fault is = absurd (let no : ⊥ = cc in no)
 is_refused_for (reply.Oldest stamp) fault is = absurd (let no : ⊥ = cc in no)
 is_refused_for (reply.Turned turned) fault is = absurd (let no : ⊥ = cc in no)

@@ -2,7 +2,7 @@
 use Rattle.std.proofs.Common.{◌≡◌, ℕ, ◌+◌, ◌*◌, ◌≤◌, false, List, [], ◌∷◌, Ok, refl, sym, ap, subst, ◌∙◌, append-nil, true≢false, arith}
 use Rattle.event_spec.specs.declared.event.Event.TheVariants as event
 use Rattle.event_spec.specs.declared.own.OwnTransaction.{OwnTransaction}
-use Rattle.event_spec.specs.Parts.{Parts, Shape, slots_of}
+use Rattle.event_spec.specs.Parts.{Parts}
 use Rattle.event_spec.specs.Replies.{CoreReply}
 use Rattle.event_spec.specs.declared.reply.Reply.TheVariants as reply
 use Rattle.run_spec.specs.Handed.{Stretch}
@@ -15,7 +15,7 @@ use Rattle.run_spec.specs.Calls.{is_memory}
 use Rattle.std.specs.Prelude.{count_by}
 use Rattle.shared_store.specs.Lending.{EndsLend, LendView}
 use Rattle.shared_store.specs.Reading.{GivesBack, IsReadOf, ReadsBlock, SeesBlock, reply_of}
-use Rattle.shared_store.specs.Store.{EndsWithLast, IsFree, StoreView, TookPartsOf, seen, shape_in, taken_by}
+use Rattle.shared_store.specs.Store.{EndsWithLast, IsFree, StoreView, seen, shape_in}
 use Rattle.shared_store.specs.declared.reading.SeenBlock.{SeenBlock}
 use Rattle.shared_store.specs.declared.reading.SeenBlock.TheVariants as block
 use Rattle.shared_store.specs.declared.session.Session.{Session}
@@ -28,6 +28,7 @@ lent_back store old mid new own t b lend r ends = record {
   session = ends.session;
   same = ends.same ∙ r.same;
   opened = ends.opened ∙ r.opened;
+  kept = ends.kept ∙ r.kept;
   made = r.made;
   is_read = r.is_read;
   stretch = subst (Stretch (shape_in store) old.session (seen old) (seen new)) (append-nil r.made)

@@ -1,5 +1,5 @@
 -- The image of a block, made of the parts that a pass holds and laid into the block.
-use Rattle.std.proofs.Common.{◌≡◌, ◌⊎◌, ℕ, true, cond, List, [], ◌∷◌, Option, None, Some, length, map, refl, sym, ap, subst, ◌∙◌, append-nil, arith}
+use Rattle.std.proofs.Common.{◌≡◌, ◌⊎◌, ℕ, true, cond, List, [], ◌∷◌, Option, None, Some, length, map, refl, sym, ap, subst, ◌∙◌, arith}
 use mathlib.Core.Logic.{inl, inr}
 use Rattle.block_spec.specs.declared.phase.Phase.{Phase}
 use Rattle.block_spec.specs.declared.phase.Phase.TheVariants.{Loose, Sealed, Imaged}
@@ -25,7 +25,7 @@ use Rattle.store_laws.proofs.Stretches.{nothing_is_a_stretch}
 use Rattle.run_spec.specs.Asked.{rows_sealed}
 use Rattle.shared_store.specs.Freezing.{Imaged as ImagedAny, ImagedHeld, Images, ImagesHeld, IsImageThere, MakesNone, MayImageHeld, imaging}
 use Rattle.shared_store.specs.Making.{Gives, Makes, MayMakeHeld, Takes, parts_seen}
-use Rattle.shared_store.specs.Store.{Answers, HandsView, IsAt, IsSession, IsTouched, IsWithin, SeatView, StoreView, TookPartsOf, own_of, seen, shape_in}
+use Rattle.shared_store.specs.Store.{Answers, HandsView, IsAt, IsSession, IsTouched, IsWithin, SeatView, StoreView, TookPartsOf, own_of, seen, shape_in, KeepsReads, reads_of}
 use Rattle.shared_store.proofs.Hands.{agrees_with}
 use Rattle.shared_store.proofs.Made.{fronts, made_whole, one_hand}
 use Rattle.run_spec.specs.Handed.{GoesOn, own_in}
@@ -39,6 +39,8 @@ use Rattle.workload_spec.specs.declared.reply.Said.TheVariants as said
 use Rattle.store_laws.specs.Logs.{log_of}
 use Rattle.store_laws.specs.Own.{entry_of, parts_after}
 use Rattle.hall_rule.specs.declared.view.Entry.{Entry}
+use Rattle.isolation_spec.specs.Reads.{ReadSet}
+use Rattle.run_spec.specs.Calls.{reads_behind}
 
 -- the image that fits a body is that of its rows, where it is sealed
 pub image_is : (image : Option (List Row)) (body : Body) (phase : Phase) → body.phase ≡ phase → IsImageOf image body phase → image ≡ rows_sealed body
@@ -171,24 +173,26 @@ imaged_all store session s t u w hands later ended own table block None takes he
 
 -- a gathering of one event answers with the line that the event tells
 pub gathered_whole : (store : StoreView) (s new : Session) (table block : ℕ) (told : CoreReply) (line : Said) → IsSession store s
-    → Images store s.session s.pass.seat new.pass.seat new.pass.hands (own_of s) table block told → new.session ≡ s.session → own_of new ≡ own_of s
+    → Images store s.session s.pass.seat new.pass.seat new.pass.hands (own_of s) table block told → new.session ≡ s.session → own_of new ≡ own_of s → KeepsReads store s new
+    → ((reads : Option ReadSet) → reads_behind reads (Gather table block) line ≡ reads)
     → TellsLine (own_of s) (Gather table block) told line → IsSession store new × Answers store s new (Gather table block) line
-gathered_whole store s new table block told line is images same opened tells =
-    one_event_at store s new (Gather table block) (imaging table block images.image) told line is refl images.makes same opened refl
+gathered_whole store s new table block told line is images same opened kept unread tells =
+    one_event_at store s new (Gather table block) (imaging table block images.image) told line is refl images.makes same opened (kept.0 ∙ sym (unread (reads_of s))) kept.1 refl
     (ap (λ image. imaging table block image ∷ []) (sym images.there)) tells
 
 -- a gathering that made no event for want of memory answers so
 pub gathered_none : (store : StoreView) (s new : Session) (table block : ℕ) → IsSession store s
-    → MakesNone store s.session s.pass.seat new.pass.seat new.pass.hands (own_of s) table block → new.session ≡ s.session → own_of new ≡ own_of s
+    → MakesNone store s.session s.pass.seat new.pass.seat new.pass.hands (own_of s) table block → new.session ≡ s.session → own_of new ≡ own_of s → KeepsReads store s new
     → IsSession store new × Answers store s new (Gather table block) said.Memory
-gathered_none store s new table block is none same opened = (
+gathered_none store s new table block is none same opened kept = (
   session_is store new (subst (λ q. IsAt store q new.pass.seat new.pass.hands (own_of new)) (sym same)
-      (subst (IsAt store s.session new.pass.seat new.pass.hands) (sym opened) none.stands)),
+      (subst (IsAt store s.session new.pass.seat new.pass.hands) (sym opened) none.stands)) kept.1,
   record {
     made = [];
+    keeps = kept.0;
     called = record {
       stretch = nothing_is_a_stretch (shape_in store) s.session (seen s) (seen new) none.sees.goes_on none.sees.same;
-      is_call = (unmade_call (shape_in store) s.session (seen s) (own_of s) is.own (Gather table block) refl refl).is_call;
+      is_call = (unmade_call (shape_in store) s.session (seen s) (own_of s) is.own (reads_of s) (Gather table block) refl refl).is_call;
     };
     count = let m = ap (λ (es : List (Entry CoreEvent)). length es) none.mine in omega (arith, m);
     ends = tt;

@@ -30,7 +30,6 @@ use Rattle.hall_rule.specs.Views.{bumped, claimed, left, tried}
 use Rattle.hall_rule.specs.declared.view.Entry.{Entry}
 use Rattle.hall_rule.specs.declared.view.View.{View}
 use Rattle.hall_steps.specs.Hall.{IsPass, SameClaim, first_of}
-use Rattle.run_spec.specs.Handed.{GoesOn}
 use Rattle.run_spec.specs.Occurrences.{Logged}
 use Rattle.store_laws.proofs.Entries.{replay_same}
 use Rattle.store_laws.proofs.Looks.{lawful_parts}

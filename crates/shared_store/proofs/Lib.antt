@@ -16,8 +16,9 @@ pub mod Made
 pub mod Maps
 pub mod Observed
 pub mod Pruned
+pub mod ReadSets
 pub mod Rested
-pub mod Rows
+mod Rows
 pub mod Scanned
 pub mod Sessions
 pub mod Shown
@@ -33,3 +34,5 @@ pub mod Drained
 pub mod Seeing
 pub mod GivenBack
 pub mod Ending
+pub mod Marking
+pub mod Taken

@@ -1,8 +1,11 @@
 -- A row's entry that was laid beforehand, and is then settled or taken away.
-use Rattle.std.proofs.Common.{◌≡◌, ℕ, Bool, true, false, cond, [], ◌∷◌, Option, None, Some, is_some, Ordering, Less, Equal, Greater, refl, sym, ap, ◌∙◌, true≢false, ℤ, ◌==◌, option_map, List, ◌++◌}
+use Rattle.std.proofs.Common.{◌≡◌, ℕ, Bool, true, false, cond, [], ◌∷◌, Option, None, Some, is_some, ◌||◌, Ordering, Less, Equal, Greater, refl, sym, ap, ◌∙◌, true≢false, ℤ, ◌==◌, option_map, List, ◌++◌}
 use Rattle.std.specs.Prelude.{find}
 use Rattle.std.specs.BTreeMap.{insert_entry}
+use Rattle.std.specs.BTreeSet.{insert_key}
+use Rattle.std.specs.List.{list_any}
 use Rattle.std.specs.Map.{remove_entry}
+use Rattle.std.specs.Set.{remove_key}
 use Rattle.std.specs.Ordering.{is_eq, match_ordering, ordering_reverse}
 use Rattle.core_laws.proofs.Events.Slots.{num, num_refl}
 use Rattle.isolation_laws.proofs.Rows.{place_cmp-total}
@@ -53,6 +56,20 @@ laid_away (e ∷ m) p one none' = go (place_cmp p e.0) refl none' (laid_away m p
     go Greater is gone later =
         ap (λ r. cond (is_eq r) (insert_entry place_cmp m p one) (e ∷ remove_entry (is_place p) (insert_entry place_cmp m p one))) is
         ∙ ap (λ (es : PlaceMap ℕ). e ∷ es) (later gone)
+
+-- a place that a set did not have is taken out again
+pub taken_out : (places : List Place) (p : Place) → list_any (is_place p) places ≡ false → remove_key (is_place p) (insert_key place_cmp places p) ≡ places
+taken_out [] p new = ap (λ b. cond b [] (p ∷ [])) (itself p)
+taken_out (q ∷ places) p new = go (place_cmp p q) refl new (taken_out places p)
+  where
+    go : (r : Ordering) → place_cmp p q ≡ r → (is_eq r || list_any (is_place p) places) ≡ false
+        → (list_any (is_place p) places ≡ false → remove_key (is_place p) (insert_key place_cmp places p) ≡ places)
+        → remove_key (is_place p) (match_ordering r (p ∷ q ∷ places) (q ∷ places) (q ∷ insert_key place_cmp places p)) ≡ q ∷ places
+    go Less is new later = ap (λ b. cond b (q ∷ places) (p ∷ remove_key (is_place p) (q ∷ places))) (itself p)
+    go Equal is new later = absurd (true≢false new)
+    go Greater is new later =
+        ap (λ r. cond (is_eq r) (insert_key place_cmp places p) (q ∷ remove_key (is_place p) (insert_key place_cmp places p))) is
+        ∙ ap (λ (ps : List Place). q ∷ ps) (later new)
 
 -- what was laid at a place lies there
 laid_there : (m : PlaceMap ℕ) (p : Place) (one : ℕ) → at_place (insert_entry place_cmp m p one) p ≡ Some one

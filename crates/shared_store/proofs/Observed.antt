@@ -44,7 +44,7 @@ module _ (store : StoreView) where
   -- a session that observed all blocks answers with how many turned cooling
   pub observes_whole : (old new : Session) (count : ℕ) → IsSession store old → Observes store old new (at_all_blocks (shape_in store) observing) count
       → Answers store old new Observe (said.Cooling count)
-  observes_whole old new count is o = went_call store old new Observe (at_all_blocks (shape_in store) observing) o.made (said.Cooling count) is o.went refl refl (inl (record {
+  observes_whole old new count is o = went_call store old new Observe (at_all_blocks (shape_in store) observing) o.made (said.Cooling count) is o.went refl refl refl (inl (record {
     events = o.events_are;
     granted = plain_granted o.made o.plain;
     line = ap (λ n. Some (said.Cooling n)) o.told;

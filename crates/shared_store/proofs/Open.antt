@@ -1,7 +1,7 @@
 -- What a session has open by the machine, from call to call.
 use Rattle.std.proofs.Common.{◌≡◌, ℕ, ℤ, Bool, true, false, List, [], ◌∷◌, ◌++◌, Option, None, Some, Result, Ok, Err, is_some, option_map, refl, sym, ap, subst, ◌∙◌, append-nil, true≢false}
 use Rattle.std.specs.BTreeMap.{insert_entry}
-use Rattle.std.proofs.lemmas.List.{append_cancel_right, map-append}
+use Rattle.std.proofs.lemmas.List.{append_cancel_right}
 use Rattle.block_spec.specs.Slots.{Row}
 use Rattle.core_laws.specs.Events.Laws.{IsStep, command_in}
 use Rattle.event_spec.specs.declared.event.Event.TheVariants as event
@@ -9,23 +9,28 @@ use Rattle.event_spec.specs.declared.own.OwnKey.{OwnKey}
 use Rattle.event_spec.specs.declared.own.OwnTransaction.{OwnTransaction}
 use Rattle.event_spec.specs.declared.reply.Reply.TheVariants as reply
 use Rattle.event_spec.specs.Effects.{CoreEvent}
-use Rattle.event_spec.specs.Parts.{Shape}
+use Rattle.event_spec.specs.Lawful.{reads_handed}
 use Rattle.event_spec.specs.Replay.{IsLawfulLog}
 use Rattle.event_spec.specs.Replies.{CoreReply}
 use Rattle.event_spec.specs.Sound.{IsShape}
-use Rattle.isolation_spec.specs.Contents.{History, PlaceMap, WriteSet, place_at, place_cmp, place_of}
+use Rattle.isolation_spec.specs.Contents.{History, PlaceMap, WriteSet, place_cmp, place_of}
+use Rattle.isolation_spec.specs.Checked.{step_with}
 use Rattle.isolation_spec.specs.Machine.{IsolationMachine}
+use Rattle.isolation_spec.specs.declared.command.Act.TheVariants as act
+use Rattle.isolation_spec.specs.declared.command.Answer.TheVariants as answer
+use Rattle.isolation_spec.specs.declared.command.Command.{Command}
 use Rattle.run_spec.specs.Handed.{own_in}
-use Rattle.run_spec.specs.Occurrences.{Logged, Occurrence}
-use Rattle.store_laws.specs.Logs.{log_of, made_in}
-use Rattle.store_laws.specs.Machines.{HasMore, HasOpenIn, machine_after}
+use Rattle.run_spec.specs.Occurrences.{Logged}
+use Rattle.store_laws.specs.Logs.{made_in}
+use Rattle.store_laws.specs.Machines.{HasOpenIn, machine_after, stale_since}
 use Rattle.store_laws.specs.Own.{MakesOne, StandsUnder, entry_of, occurrence_at, parts_after}
 use Rattle.store_laws.proofs.Entries.{own_grows}
 use Rattle.store_laws.proofs.Machines.{last_step, more_commits, quiet_on}
-use Rattle.store_laws.proofs.Stepping.{Leaves, begun, committed, found, insert_left, inserted, more_again, open_on}
+use Rattle.store_laws.proofs.Stepping.{Leaves, begun, committed, found, insert_left, inserted, open_on, stands, stays_stale}
 use Rattle.txn_desk.specs.declared.Snapshot.{Snapshot}
-use Rattle.shared_store.specs.Open.{Adds, Begins, Commits, Finds, FindsRow, IsOpen, Opens, StaysOpen, WritesRow, commits_seen, machine_of}
-use Rattle.shared_store.specs.Store.{IsSession, StoreView, opened_at, own_of, seen, shape_in}
+use Rattle.shared_store.specs.Open.{Commits, FindsRow, IsOpen, Opens, StaysOpen, WritesRow, commits_seen, machine_of}
+use Rattle.shared_store.specs.Store.{IsSession, StoreView, opened_at, own_of, reads_of, seen, shape_in}
+use Rattle.shared_store.specs.declared.faults.Stale.{Stale}
 use Rattle.shared_store.specs.Writing.{IsWriteReply, is_written}
 use Rattle.shared_store.specs.declared.session.Session.{Session}
 
@@ -58,10 +63,10 @@ module _ (store : StoreView) (q : ℕ) (earlier later : List Logged) (e : CoreEv
       (under_front q m.before (entry ∷ []) (subst (StandsUnder q) m.log under))
 
   -- the machine takes the event as it may
-  pub event_step : IsStep (command_in e) at_event told (machine_after (shape_in store) later)
+  pub event_step : IsStep (command_in e) (reads_handed e) at_event told (machine_after (shape_in store) later)
   event_step =
-      subst (λ r. IsStep (command_in e) at_event r (machine_after (shape_in store) later)) (sym m.reply)
-      (subst (λ l. IsStep (command_in e) at_event (Rattle.event_spec.specs.Replay.reply_after (shape_in store) (parts_after (shape_in store) m.before) entry.made) (machine_after (shape_in store) l)) (sym m.log)
+      subst (λ r. IsStep (command_in e) (reads_handed e) at_event r (machine_after (shape_in store) later)) (sym m.reply)
+      (subst (λ l. IsStep (command_in e) (reads_handed e) at_event (Rattle.event_spec.specs.Replay.reply_after (shape_in store) (parts_after (shape_in store) m.before) entry.made) (machine_after (shape_in store) l)) (sym m.log)
       (last_step (shape_in store) m.before entry measures (subst (λ l. IsLawfulLog (shape_in store) (made_in l)) m.log lawful)))
 
 -- ---- a session
@@ -83,7 +88,7 @@ module _ (store : StoreView) (old new : Session) (e : CoreEvent) (told : CoreRep
   left : Leaves old.session (machine_of store old) middle
   left = before_left store old.session (seen old) (seen new) e told (measures_of store old is) later.lawful (under_of store old.session new later same) m
 
-  step_is : IsStep (command_in e) middle told (machine_of store new)
+  step_is : IsStep (command_in e) (reads_handed e) middle told (machine_of store new)
   step_is = event_step store old.session (seen old) (seen new) e told (measures_of store old is) later.lawful (under_of store old.session new later same) m
 
   -- what was open is so at the event
@@ -117,9 +122,9 @@ shut_of s h = go s.snapshot h
     go (Some x) h = refl
 
 -- a session as it was, but for the room of its writes
-pub nothing_made : (store : StoreView) (s : Session) (writes : PlaceMap ℕ) → StaysOpen store s (record { pass = s.pass; session = s.session; snapshot = s.snapshot; writes = writes })
+pub nothing_made : (store : StoreView) (s : Session) (writes : PlaceMap ℕ) → StaysOpen store s (record { pass = s.pass; session = s.session; snapshot = s.snapshot; writes = writes; reads = s.reads })
 nothing_made store s writes commits own o = record {
-  busy = busy_of (record { pass = s.pass; session = s.session; snapshot = s.snapshot; writes = writes }) (shut_of s o.busy);
+  busy = busy_of (record { pass = s.pass; session = s.session; snapshot = s.snapshot; writes = writes; reads = s.reads }) (shut_of s o.busy);
   has = o.has;
 }
 
@@ -131,7 +136,7 @@ begins_open store old new snapshot is later same m none' busy =
     let e = event.Begin old.session in
     let told : CoreReply = reply.Begun snapshot in
     let mid = middle store old new e told is later same m in
-    let b = begun old.session snapshot.number mid (machine_of store new) (step_is store old new e told is later same m) in
+    let b = begun false old.session snapshot.number mid (machine_of store new) (step_is store old new e told is later same m) in
     record {
       began = none';
       is_open = opened store old new e told is later same m (commits_seen store new) [] busy (subst (λ (h : History). HasOpenIn old.session (machine_of store new) h []) (sym b.2) b.0);
@@ -179,7 +184,7 @@ inserts_row store old new k table row (reply.Refused why) (Err fault) is later s
     let mid = middle store old new e told is later same m in
     unmoved store old new e told is later same m commits own busy o
     (insert_left old.session mid (machine_of store new) commits own (still store old new e told is later same m commits own o) table row why
-    (subst (λ q. Rattle.core_laws.specs.Events.Laws.IsTold mid (record { session = q; act = Rattle.isolation_spec.specs.declared.command.Act.TheVariants.Insert table row }) told (machine_of store new)) mine (step_is store old new e told is later same m)))
+    (subst (λ q. Rattle.core_laws.specs.Events.Laws.IsTold mid None (record { session = q; act = Rattle.isolation_spec.specs.declared.command.Act.TheVariants.Insert table row }) told (machine_of store new)) mine (step_is store old new e told is later same m)))
 inserts_row store old new k table row reply.Memory (Err fault) is later same mine m busy write ok = λ commits own o.
     let s = step_is store old new (event.Insert k table row) reply.Memory is later same m in
     unmoved store old new (event.Insert k table row) reply.Memory is later same m commits own busy o (sym s.2)
@@ -191,6 +196,7 @@ inserts_row store old new k table row (reply.Found x) answer is later same mine 
 inserts_row store old new k table row (reply.Rows rows) answer is later same mine m busy write ok = absurd write
 inserts_row store old new k table row (reply.Shared rows) answer is later same mine m busy write ok = absurd write
 inserts_row store old new k table row (reply.Committed number) answer is later same mine m busy write ok = absurd write
+inserts_row store old new k table row (reply.Stale what number) answer is later same mine m busy write ok = absurd write
 inserts_row store old new k table row reply.Aborted answer is later same mine m busy write ok = absurd write
 inserts_row store old new k table row (reply.Oldest stamp) answer is later same mine m busy write ok = absurd write
 inserts_row store old new k table row (reply.Turned turned) answer is later same mine m busy write ok = absurd write
@@ -203,21 +209,50 @@ inserts_row store old new k table row (reply.Imaged rows) answer is later same m
 inserts_row store old new k table row reply.NoSeal answer is later same mine m busy write ok = absurd write
 inserts_row store old new k table row reply.Thawed answer is later same mine m busy write ok = absurd write
 
--- a commit
-pub commits_own : (store : StoreView) (old new : Session) (t : OwnTransaction) (number : Option ℕ) → IsSession store old → IsSession store new → new.session ≡ old.session
-    → t.session ≡ old.session
-    → MakesOne (shape_in store) old.session (seen old) (seen new) (event.Commit t) (reply.Committed number)
-    → Commits store old new number
-commits_own store old new t number is later same mine m commits own o =
-    let e = event.Commit t in
-    let told : CoreReply = reply.Committed number in
-    let mid = middle store old new e told is later same m in
-    record {
-      before = mid.history;
-      goes_on = (left store old new e told is later same m).more;
-      adds = committed old.session mid (machine_of store new) commits own (still store old new e told is later same m commits own o) number
-          (subst (λ q. Rattle.isolation_spec.specs.Machine.step mid (record { session = q; act = Rattle.isolation_spec.specs.declared.command.Act.TheVariants.Commit }) ≡ (Rattle.isolation_spec.specs.declared.command.Answer.TheVariants.Committed number, machine_of store new)) mine (step_is store old new e told is later same m));
-    }
+-- a commit, with the reads that it hands in
+module _ (store : StoreView) (old new : Session) (t : OwnTransaction) (is : IsSession store old) (later : IsSession store new) (same : new.session ≡ old.session) (mine : t.session ≡ old.session) where
+  abbrev committing : CoreEvent
+  committing = event.Commit t (reads_of old)
+
+  abbrev asking : ℕ → Command
+  asking q = record { session = q; act = act.Commit }
+
+  -- one that stands
+  pub commits_own : (number : Option ℕ) → MakesOne (shape_in store) old.session (seen old) (seen new) committing (reply.Committed number) → Commits store old new (Ok number)
+  commits_own number m commits own o =
+      let told : CoreReply = reply.Committed number in
+      let mid = middle store old new committing told is later same m in
+      let open' = still store old new committing told is later same m commits own o in
+      let stood = stands old.session mid (machine_of store new) commits own open' (reads_of old) number
+      (subst (λ q. step_with mid (reads_of old) (asking q) ≡ (answer.Committed number, machine_of store new)) mine (step_is store old new committing told is later same m)) in
+      record {
+        before = mid.history;
+        goes_on = (left store old new committing told is later same m).more;
+        adds = committed old.session mid (machine_of store new) commits own open' number stood.1;
+        stands = stood.0;
+      }
+
+  -- one that is refused leaves all as it was
+  pub commits_stale : (stale : Stale) → MakesOne (shape_in store) old.session (seen old) (seen new) committing (reply.Stale stale.read stale.number)
+      → own_of new ≡ own_of old → reads_of new ≡ reads_of old → Commits store old new (Err stale)
+  commits_stale stale m opened kept = record {
+    opened = opened;
+    reads = kept;
+    is_open = λ commits own o. unmoved store old new committing told is later same m commits own (ap (λ (x : Option OwnTransaction). is_some x) opened ∙ o.busy) o (refused commits own o).1;
+    wrote = λ commits own o.
+        ap (λ (x : IsolationMachine). stale_since x.history commits own (reads_of old)) (sym (refused commits own o).1) ∙ (refused commits own o).0;
+  }
+    where
+      told : CoreReply
+      told = reply.Stale stale.read stale.number
+
+      refused : (commits : History) (own : WriteSet) → IsOpen store old commits own
+          → (stale_since (middle store old new committing told is later same m).history commits own (reads_of old) ≡ Some (stale.read, stale.number))
+          × (middle store old new committing told is later same m ≡ machine_of store new)
+      refused commits own o =
+          let mid = middle store old new committing told is later same m in
+          stays_stale old.session mid (machine_of store new) commits own (still store old new committing told is later same m commits own o) (reads_of old) stale.read stale.number
+          (subst (λ q. step_with mid (reads_of old) (asking q) ≡ (answer.Stale stale.read stale.number, machine_of store new)) mine (step_is store old new committing told is later same m))
 
 -- a session that saw more and made nothing
 pub sees_on : (store : StoreView) (old new : Session) → IsSession store new → new.session ≡ old.session → own_of new ≡ own_of old

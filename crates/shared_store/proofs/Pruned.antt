@@ -109,7 +109,7 @@ module _ (store : StoreView) (oldest : ℕ) where
 
   -- all of them
   pub prunes_whole : (old new : Session) (count : ℕ) → IsSession store old → Prunes store oldest old new asked count → Answers store old new Prune (said.Pruned count)
-  prunes_whole old new count is p = went_call store old new Prune asked p.made (said.Pruned count) is p.went asks refl (inl (record {
+  prunes_whole old new count is p = went_call store old new Prune asked p.made (said.Pruned count) is p.went asks refl refl (inl (record {
     events = p.events_are ∙ sym asks;
     granted = plain_granted p.made p.plain;
     line = ap (λ n. Some (said.Pruned n)) p.told.counted;

@@ -1,6 +1,6 @@
 -- Events on blocks one after another, of which a pass keeps the parts that all touch.
-use Rattle.std.proofs.Common.{◌≡◌, ℕ, ◌+◌, Bool, true, List, [], ◌∷◌, ◌++◌, Option, None, Some, length, set, refl, sym, ap, subst, ◌∙◌, ⊎_elim, true≢false}
-use mathlib.Core.Logic.{inr}
+use Rattle.std.proofs.Common.{◌≡◌, ℕ, ◌+◌, Bool, true, false, List, [], ◌∷◌, ◌++◌, Option, None, Some, length, set, refl, sym, ap, subst, ◌∙◌, true≢false}
+use mathlib.Core.Logic.{◌⊎◌, inl, inr}
 use Rattle.std.specs.Prelude.{slice_get}
 use Rattle.event_spec.specs.declared.own.OwnTransaction.{OwnTransaction}
 use Rattle.event_spec.specs.Effects.{CoreEvent}
@@ -24,15 +24,16 @@ use Rattle.store_laws.specs.Logs.{log_of, store_meaning}
 use Rattle.store_laws.specs.Own.{StandsUnder, parts_after}
 use Rattle.shared_store.specs.Keeping.{GivesPart, IsKeeping, IsOnBlock, Keeps, MakesAnyKeeping, MakesKeeping, rested, rested_hands, rested_seat}
 use Rattle.shared_store.specs.Making.{Gives, Makes, MakesHeld, Takes}
-use Rattle.shared_store.specs.Store.{EndsWithLast, HandsView, IsAt, IsSession, IsWithin, KeepsLend, SeatView, StoreView, TookPartsOf, own_of, seen, shape_in, taken_by}
+use Rattle.shared_store.specs.Store.{EndsWithLast, HandsView, IsAt, IsSession, IsWithin, KeepsLend, SeatView, StoreView, TookPartsOf, own_of, seen, shape_in, taken_by, KeepsReads, reads_of}
 use Rattle.shared_store.specs.Sweeping.{MakesAlone, Sweeps, SweepsMore}
 use Rattle.shared_store.specs.declared.session.Session.{Session}
 use Rattle.shared_store.proofs.Kept.{body_touched, covers_with, hand_room, keeps_without, rested_at}
 use Rattle.shared_store.proofs.Made.{made_whole, taken_parts}
 use Rattle.shared_store.proofs.Sessions.{session_is}
 use Rattle.shared_store.proofs.Swept.{made_alone}
-use Rattle.shared_store.proofs.Claims.{keeps_on, keeps_same, keeps_stays, same_on}
+use Rattle.shared_store.proofs.Claims.{keeps_on, keeps_same, same_on}
 use Rattle.run_spec.specs.Handed.{Stretch}
+use Rattle.shared_store.specs.Reads.{ReadsFit}
 
 -- ---- taking
 
@@ -49,11 +50,12 @@ body_taken store common table block body e s t held hands at on keeps there look
     session own within
     (covers_with (shape_in store) common table block body e at on (first_of held) (first_of hands) hand.0 (hand_room store session s held own within) keeps hand.1)
     (body ∷ []) taken
-    (λ k is. ⊎_elim
-    (λ same. subst (λ i. touching (shape_in store) e (all_in (parts_after (shape_in store) (log_of t.me.0.log))) i ≡ true) (sym same)
-    (body_touched (shape_in store) common table block body e at on (all_in (parts_after (shape_in store) (log_of t.me.0.log)))))
-    (λ none'. absurd (true≢false (sym none')))
-    (has_cons k body [] is))
+    (λ k is. touches k (has_cons k body [] is))
+  where
+    touches : (k : ℕ) → (k ≡ body) ⊎ (false ≡ true) → touching (shape_in store) e (all_in (parts_after (shape_in store) (log_of t.me.0.log))) k ≡ true
+    touches k (inl same) = subst (λ i. touching (shape_in store) e (all_in (parts_after (shape_in store) (log_of t.me.0.log))) i ≡ true) (sym same)
+        (body_touched (shape_in store) common table block body e at on (all_in (parts_after (shape_in store) (log_of t.me.0.log))))
+    touches k (inr none') = absurd (true≢false (sym none'))
 
 -- all was given back, and then parts were taken
 pub taken_anew : (store : StoreView) (session : ℕ) (s m t : SeatView) (mid later : HandsView) (own : Option OwnTransaction) (e : CoreEvent)
@@ -125,12 +127,12 @@ made_keeping store session common table block body s t u w hands mid later own e
 -- ---- sessions that keep parts
 
 -- a session that keeps parts is one of the store, as if it had given all back
-pub rested_session : (store : StoreView) (s : Session) → IsWithin store s.session s.pass.seat s.pass.hands (own_of s) → IsSession store (rested s)
-rested_session store s within = session_is store (rested s) (rested_at store s.session s.pass.seat s.pass.hands (own_of s) within)
+pub rested_session : (store : StoreView) (s : Session) → IsWithin store s.session s.pass.seat s.pass.hands (own_of s) → ReadsFit (shape_in store) (reads_of s) → IsSession store (rested s)
+rested_session store s within fits = session_is store (rested s) (rested_at store s.session s.pass.seat s.pass.hands (own_of s) within) fits
 
 -- a session that keeps nothing yet
 pub keeping_starts : (store : StoreView) (common : Name → Bool) (block : ℕ) (s : Session) → IsSession store s → block ≡ 0 → IsKeeping store common block s
-keeping_starts store common block s is none' = record { within = is.stands.within; keeps = λ some. absurd (some none') }
+keeping_starts store common block s is none' = record { within = is.stands.within; fits = is.fits; keeps = λ some. absurd (some none') }
 
 -- the event that a pass was handed, as one of its session
 pub kept_by : (store : StoreView) (common : Name → Bool) (table block : ℕ) (old : Session) (seat : SeatView) (hands : HandsView) (e handed : CoreEvent) (told : CoreReply)
@@ -144,8 +146,9 @@ kept_by store common table block old seat hands e handed told is on unnamed same
 -- a session that made one event more, which opens and ends nothing
 pub kept_on : (store : StoreView) (common : Name → Bool) (block : ℕ) (old new : Session) (e : CoreEvent) (told : CoreReply)
     → MakesKeeping store old.session old.pass.seat new.pass.seat new.pass.hands (own_of old) common e told
-    → new.session ≡ old.session → own_of new ≡ own_of old → own_behind (own_of old) e told ≡ own_of old → IsKeeping store common (block + 1) new
-kept_on store common block old new e told m same opened stays = record {
+    → new.session ≡ old.session → own_of new ≡ own_of old → ReadsFit (shape_in store) (reads_of new) → own_behind (own_of old) e told ≡ own_of old → IsKeeping store common (block + 1) new
+kept_on store common block old new e told m same opened fits stays = record {
+  fits = fits;
   within = subst (λ q. IsWithin store q new.pass.seat new.pass.hands (own_of new)) (sym same)
       (subst (IsWithin store old.session new.pass.seat new.pass.hands) (stays ∙ sym opened) m.within);
   keeps = λ _. m.keeps;
@@ -154,8 +157,8 @@ kept_on store common block old new e told m same opened stays = record {
 -- an event that was made with parts kept was made alone by the session as if it kept none
 pub alone_kept : (store : StoreView) (common : Name → Bool) (old new : Session) (e : CoreEvent) (told said : CoreReply)
     → MakesKeeping store old.session old.pass.seat new.pass.seat new.pass.hands (own_of old) common e told → told ≡ said
-    → new.session ≡ old.session → own_of new ≡ own_of old → own_behind (own_of old) e told ≡ own_of old → MakesAlone store (rested old) (rested new) e said
-alone_kept store common old new e told said m is same opened stays = made_alone store (rested old) (rested new) e told said made is same opened stays
+    → new.session ≡ old.session → own_of new ≡ own_of old → KeepsReads store old new → own_behind (own_of old) e told ≡ own_of old → MakesAlone store (rested old) (rested new) e said
+alone_kept store common old new e told said m is same opened kept stays = made_alone store (rested old) (rested new) e told said made is same opened kept stays
   where
     made : Makes store old.session (rested_seat old.pass.seat) (rested_seat new.pass.seat) (rested_hands new.pass.hands) (own_of old) e told
     made = record {
@@ -169,24 +172,25 @@ alone_kept store common old new e told said m is same opened stays = made_alone 
     }
 
 -- a session that gave all back is one again
-pub given_session : (store : StoreView) (mid new : Session) → new.session ≡ mid.session → own_of new ≡ own_of mid
+pub given_session : (store : StoreView) (mid new : Session) → new.session ≡ mid.session → own_of new ≡ own_of mid → ReadsFit (shape_in store) (reads_of new)
     → Gives store mid.session mid.pass.seat new.pass.seat new.pass.hands (own_of mid) → IsSession store new
-given_session store mid new same opened gives = session_is store new
+given_session store mid new same opened fits gives = session_is store new
     (subst (λ q. IsAt store q new.pass.seat new.pass.hands (own_of new)) (sym same)
-    (subst (IsAt store mid.session new.pass.seat new.pass.hands) (sym opened) gives.stands))
+    (subst (IsAt store mid.session new.pass.seat new.pass.hands) (sym opened) gives.stands)) fits
 
 -- what a session made it made also as one that knows the same
 pub sweeps_same : (store : StoreView) (asked : List CoreEvent) (tells : List Occurrence → Type 0) (first mid new : Session) (events : List CoreEvent)
-    → Sweeps store asked tells first mid events → IsSession store new → new.session ≡ mid.session → own_of new ≡ own_of mid
+    → Sweeps store asked tells first mid events → IsSession store new → new.session ≡ mid.session → own_of new ≡ own_of mid → reads_of new ≡ reads_of mid
     → new.pass.seat.me.0.log ≡ mid.pass.seat.me.0.log → new.pass.seat.me.0.mine ≡ mid.pass.seat.me.0.mine → new.pass.seat.me.0.taken ≡ mid.pass.seat.me.0.taken
     → KeepsLend mid.pass.seat.me.0 new.pass.seat.me.0
     → Sweeps store asked tells first new events
-sweeps_same store asked tells first mid new events s is same opened log mine taken reads = record {
+sweeps_same store asked tells first mid new events s is same opened kept log mine taken reads = record {
   made = s.made;
   went = record {
     session = is;
     same = same ∙ s.went.same;
     opened = opened ∙ s.went.opened;
+    kept = kept ∙ s.went.kept;
     stretch = subst (λ (l : List (Entry CoreEvent)). Stretch (shape_in store) first.session (seen first) (log_of l) s.made) (sym log) s.went.stretch;
     count = ap (λ (es : List (Entry CoreEvent)). length es) mine ∙ s.went.count;
     ends = subst (λ (l : List (Entry CoreEvent)). EndsWithLast s.made (log_of l)) (sym log) s.went.ends;
@@ -202,15 +206,15 @@ sweeps_same store asked tells first mid new events s is same opened log mine tak
 module _ (store : StoreView) (asked : List CoreEvent) (tells : ℕ → List Occurrence → Type 0) where
   -- so it is when it is said to have given all back
   pub sweeps_rested : (old new : Session) (events : List CoreEvent) (count : ℕ) → SweepsMore store asked tells old new events count
-      → IsWithin store new.session new.pass.seat new.pass.hands (own_of new) → SweepsMore store asked tells old (rested new) events count
-  sweeps_rested old new events count so within first front before s =
+      → IsWithin store new.session new.pass.seat new.pass.hands (own_of new) → ReadsFit (shape_in store) (reads_of new) → SweepsMore store asked tells old (rested new) events count
+  sweeps_rested old new events count so within fits first front before s =
       sweeps_same store asked (tells (before + count)) first new (rested new) (front ++ events) (so first front before s)
-      (rested_session store new within) refl refl refl refl refl (record { claim = refl; claimed = λ some. refl })
+      (rested_session store new within fits) refl refl refl refl refl refl (record { claim = refl; claimed = λ some. refl })
 
   -- and when it did
   pub sweeps_given : (old mid new : Session) (events : List CoreEvent) (count : ℕ) → SweepsMore store asked tells old (rested mid) events count
-      → new.session ≡ mid.session → own_of new ≡ own_of mid → Gives store mid.session mid.pass.seat new.pass.seat new.pass.hands (own_of mid)
+      → new.session ≡ mid.session → own_of new ≡ own_of mid → KeepsReads store mid new → Gives store mid.session mid.pass.seat new.pass.seat new.pass.hands (own_of mid)
       → SweepsMore store asked tells old new events count
-  sweeps_given old mid new events count so same opened gives first front before s =
+  sweeps_given old mid new events count so same opened kept gives first front before s =
       sweeps_same store asked (tells (before + count)) first (rested mid) new (front ++ events) (so first front before s)
-      (given_session store mid new same opened gives) same opened gives.log gives.mine gives.taken (keeps_same gives.reads)
+      (given_session store mid new same opened kept.1 gives) same opened kept.0 gives.log gives.mine gives.taken (keeps_same gives.reads)

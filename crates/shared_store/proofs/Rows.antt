@@ -34,6 +34,7 @@ use Rattle.shared_store.specs.Building.{HasSessions, IsNewRow, IsNewSession}
 use Rattle.shared_store.specs.Store.{HandsView, IsAt, IsStore, SeatView, StoreView, opened_at, own_of, shape_in}
 use Rattle.shared_store.specs.declared.session.Session.{Session}
 use Rattle.shared_store.proofs.Sessions.{session_is}
+use Rattle.shared_store.specs.Reads.{ReadsFit}
 
 -- ---- the sessions 1 to n
 
@@ -189,12 +190,13 @@ first_is_new store seat hands is = new_pass store 1 seat hands is.pass is.empty 
 
 -- a session with a new pass and without a snapshot is new
 pub new_session : (store : StoreView) (number : ℕ) (s : Session) → IsNewPass store number s.pass.seat s.pass.hands
-    → s.session ≡ number → s.snapshot ≡ None → IsNewSession store number s
-new_session store number s new is shut = record {
+    → s.session ≡ number → s.snapshot ≡ None → s.reads ≡ None → IsNewSession store number s
+new_session store number s new is shut unread = record {
   session = session_is store s (subst (λ q. IsAt store q s.pass.seat s.pass.hands (own_of s)) (sym is)
-      (subst (IsAt store number s.pass.seat s.pass.hands) (sym rests) new.stands));
+      (subst (IsAt store number s.pass.seat s.pass.hands) (sym rests) new.stands)) (subst (ReadsFit (shape_in store)) (sym unread) tt);
   numbered = is;
   rests = rests;
+  unread = unread;
   made = ap (λ (es : List (Entry CoreEvent)). length es) new.mine;
   none = new.none;
   taken = new.taken;

@@ -1,5 +1,5 @@
 -- Reads of a table's blocks one after another, and the scan that they make.
-use Rattle.std.proofs.Common.{◌≡◌, ◌⊎◌, ℕ, zero, suc, ◌+◌, ◌-◌, ◌<◌, ◌≤◌, Bool, true, false, cond, not, ◌&&◌, ◌||◌, List, [], ◌∷◌, ◌++◌, Option, None, Some, Result, Ok, Err, length, map, refl, sym, ap, subst, ◌∙◌, append-nil, length-append, arith}
+use Rattle.std.proofs.Common.{◌≡◌, ◌⊎◌, ℕ, zero, suc, ◌+◌, ◌-◌, ◌<◌, ◌≤◌, Bool, true, false, cond, not, ◌&&◌, ◌||◌, List, [], ◌∷◌, ◌++◌, Option, None, Some, Result, Ok, Err, length, map, refl, sym, ap, subst, ◌∙◌, append-nil, arith}
 use mathlib.Core.Logic.{inl, inr}
 use Rattle.std.specs.Prelude.{IfOk, IfSome, IsErr, OnOk, count_by, flat_map}
 use Rattle.std.specs.List.{last_or, list_any, range_with_len}
@@ -16,7 +16,7 @@ use Rattle.event_spec.specs.Replies.{CoreReply}
 use Rattle.hall_rule.specs.EventLog.{has}
 use Rattle.isolation_spec.specs.Contents.{State, contents_of}
 use Rattle.run_spec.specs.Asked.{at_blocks, events_of}
-use Rattle.run_spec.specs.Calls.{Call, IsCallBy, IsPart, IsWhole, is_cut_short, is_final, is_memory, is_refused}
+use Rattle.run_spec.specs.Calls.{Call, IsCallBy, IsPart, IsWhole, is_cut_short, is_final, is_memory, is_refused, reads_behind}
 use Rattle.run_spec.specs.Handed.{GoesOn, Stretch}
 use Rattle.run_spec.specs.Occurrences.{Logged, Occurrence, events_in, replies_in}
 use Rattle.run_spec.specs.Told.{is_shared, refusal_of, rows_told}
@@ -35,12 +35,15 @@ use Rattle.shared_store.specs.declared.reading.SeenBlock.{SeenBlock}
 use Rattle.shared_store.specs.declared.reading.SeenBlock.TheVariants as block
 use Rattle.shared_store.specs.Told.{scanned_told}
 use Rattle.shared_store.specs.Scanning.{ArePlain, ReadsOnce, Scans, laid, scan_cost}
-use Rattle.shared_store.specs.Store.{Answers, EndsWithLast, IsSession, IsTouched, KeepsLend, StoreView, TookPartsOf, own_of, seen, shape_in, taken_by, events_made, view_of}
+use Rattle.shared_store.specs.Store.{Answers, EndsWithLast, IsSession, IsTouched, KeepsLend, StoreView, TookPartsOf, own_of, seen, shape_in, taken_by, events_made, view_of, reads_of, swept}
 use Rattle.shared_store.specs.declared.session.Session.{Session}
 use Rattle.shared_store.proofs.Calls.{ends_call, took_none}
 use Rattle.shared_store.proofs.Claims.{keeps_on, keeps_stays}
 use Rattle.shared_store.proofs.Counted.{le_more, scanned_more}
 use Rattle.shared_store.proofs.Laid.{laid_all}
+use Rattle.shared_store.specs.Reads.{with_one}
+use Rattle.isolation_spec.specs.Reads.{ReadSet}
+use Rattle.isolation_spec.specs.declared.read.Read.TheVariants as read
 
 -- ---- parts that were taken
 
@@ -89,6 +92,7 @@ went_nowhere store s events is = record {
   session = is;
   same = refl;
   opened = refl;
+  kept = refl;
   stretch = nothing_is_a_stretch (shape_in store) s.session (seen s) (seen s) ([], sym (append-nil (seen s))) refl;
   count = omega arith;
   ends = tt;
@@ -102,15 +106,16 @@ events_both xs ys = sum_by-append (λ (o : Occurrence). cond {A = ℕ} (is_event
 
 -- one event more, of those that the command makes
 pub went_more : (store : StoreView) (old mid new : Session) (e : CoreEvent) (told : CoreReply) (events : List CoreEvent) (made : List Occurrence)
-    → Went store old mid events made → IsSession store new → new.session ≡ mid.session → own_of new ≡ own_of mid
+    → Went store old mid events made → IsSession store new → new.session ≡ mid.session → own_of new ≡ own_of mid → reads_of new ≡ reads_of mid
     → (m : MakesOne (shape_in store) mid.session (seen mid) (seen new) e told) → events_made new ≡ events_made mid + 1
     → TookPartsOf (shape_in store) (e ∷ []) (seen mid) (seen new) (taken_by mid) (taken_by new) → Among e events
     → reads_block e ≡ false → KeepsLend (view_of mid) (view_of new)
     → Went store old new events (made ++ occurrence_at old.session (parts_after (shape_in store) m.before) e told ∷ [])
-went_more store old mid new e told events made w is same opened m one took among other keeps = record {
+went_more store old mid new e told events made w is same opened kept m one took among other keeps = record {
   session = is;
   same = same ∙ w.same;
   opened = opened ∙ w.opened;
+  kept = kept ∙ w.kept;
   stretch = stretches_join (shape_in store) old.session (seen old) (seen mid) (seen new) made (last ∷ []) w.stretch
       (subst (λ q. Stretch (shape_in store) q (seen mid) (seen new) (occurrence_at q (parts_after (shape_in store) m.before) e told ∷ [])) w.same
       (event_stretch (shape_in store) mid.session (seen mid) (seen new) e told m unshared));
@@ -170,6 +175,7 @@ went_on store old mid new own t b told events made w r one keeps parts is = reco
   session = r.session;
   same = r.same ∙ w.same;
   opened = r.opened ∙ w.opened;
+  kept = r.kept ∙ w.kept;
   stretch = stretches_join (shape_in store) old.session (seen old) (seen mid) (seen new) made (last ∷ []) w.stretch
       (subst (λ os. Stretch (shape_in store) old.session (seen mid) (seen new) os) here
       (subst (λ q. Stretch (shape_in store) q (seen mid) (seen new) r.made) w.same r.stretch));
@@ -196,25 +202,37 @@ went_on store old mid new own t b told events made w r one keeps parts is = reco
 
 -- ---- calls
 
--- events made one after another are a command's call where they are whole or cut short
-pub went_call : (store : StoreView) (old new : Session) (c : Command) (events : List CoreEvent) (made : List Occurrence) (line : Said)
-    → IsSession store old → Went store old new events made → events_of (shape_in store) (own_of old) old.session c made ≡ events
-    → refusal_of c (own_of old) ≡ None
-    → IsWhole (shape_in store) false old.session (own_of old) (record { command = c; made = made; told = Some line })
-    ⊎ IsPart (shape_in store) old.session (own_of old) (record { command = c; made = made; told = Some line })
-    → Answers store old new c line
-went_call store old new c events made line is w same granted either = record {
+-- Events made one after another are a command's call where they are whole or cut short. Its session
+-- has read what the line tells.
+pub went_swept : (store : StoreView) (old new : Session) (read : Option ReadSet) (c : Command) (events : List CoreEvent) (made : List Occurrence) (line : Said)
+    → IsSession store old → Went store old new events made → events_of (shape_in store) (own_of old) (reads_of old) old.session c made ≡ events
+    → refusal_of c (own_of old) ≡ None → read ≡ reads_behind (reads_of old) c line
+    → IsWhole (shape_in store) false old.session (own_of old) (record { command = c; made = made; told = Some line; reads = reads_of old })
+    ⊎ IsPart (shape_in store) old.session (own_of old) (record { command = c; made = made; told = Some line; reads = reads_of old })
+    → Answers store old (record new { reads = read }) c line
+went_swept store old new read c events made line is w same granted keeps either = record {
   made = made;
+  keeps = keeps;
   called = record {
     stretch = w.stretch;
-    is_call = subst (λ o. IsCallBy (shape_in store) false old.session o (refusal_of c o) (record { command = c; made = made; told = Some line })) is.own
-        (subst (λ r. IsCallBy (shape_in store) false old.session (own_of old) r (record { command = c; made = made; told = Some line })) (sym granted) either);
+    is_call = subst (λ o. IsCallBy (shape_in store) false old.session o (refusal_of c o) (record { command = c; made = made; told = Some line; reads = reads_of old })) is.own
+        (subst (λ r. IsCallBy (shape_in store) false old.session (own_of old) r (record { command = c; made = made; told = Some line; reads = reads_of old })) (sym granted) either);
   };
   count = w.count;
   ends = ends_call line made (seen new) w.ends;
   took = subst (λ es. TookPartsOf (shape_in store) es (seen old) (seen new) (taken_by old) (taken_by new)) (sym same) w.took;
   reads = w.reads;
 }
+
+-- where the line tells none, it has read what it had
+pub went_call : (store : StoreView) (old new : Session) (c : Command) (events : List CoreEvent) (made : List Occurrence) (line : Said)
+    → IsSession store old → Went store old new events made → events_of (shape_in store) (own_of old) (reads_of old) old.session c made ≡ events
+    → refusal_of c (own_of old) ≡ None → reads_behind (reads_of old) c line ≡ reads_of old
+    → IsWhole (shape_in store) false old.session (own_of old) (record { command = c; made = made; told = Some line; reads = reads_of old })
+    ⊎ IsPart (shape_in store) old.session (own_of old) (record { command = c; made = made; told = Some line; reads = reads_of old })
+    → Answers store old new c line
+went_call store old new c events made line is w same granted unread either =
+    went_swept store old new (reads_of new) c events made line is w same granted (w.kept ∙ sym unread) either
 
 -- Each is a read that was granted.
 abbrev AreReads : List Occurrence → Type 0
@@ -254,11 +272,12 @@ no_end log o (x ∷ xs) h all = no_end log (Some x) xs all.0 all.1
 unfoldable pub unlent_call : (store : StoreView) (old mid new : Session) (own : OwnTransaction) (t b : ℕ) (told : CoreReply) (c : Command) (events : List CoreEvent) (made : List Occurrence)
     → IsSession store old → Went store old mid events made → (r : ReadsBlock store mid new own t b told) → Among (event.Read own t b) events → KeepsLend (view_of mid) (view_of new)
     → r.made ≡ [] → AreReads made
-    → events_of (shape_in store) (own_of old) old.session c made ≡ events → refusal_of c (own_of old) ≡ None
-    → IsPart (shape_in store) old.session (own_of old) (record { command = c; made = made; told = Some said.Memory })
+    → events_of (shape_in store) (own_of old) (reads_of old) old.session c made ≡ events → refusal_of c (own_of old) ≡ None
+    → IsPart (shape_in store) old.session (own_of old) (record { command = c; made = made; told = Some said.Memory; reads = reads_of old })
     → Answers store old new c said.Memory
 unlent_call store old mid new own t b told c events made is w r one keeps none' reads same granted part = record {
   made = made;
+  keeps = r.kept ∙ w.kept;
   called = record {
     stretch = subst (Stretch (shape_in store) old.session (seen old) (seen new)) (append-nil made)
         (stretches_join (shape_in store) old.session (seen old) (seen mid) (seen new) made [] w.stretch
@@ -277,7 +296,7 @@ unlent_call store old mid new own t b told c events made is w r one keeps none' 
 }
   where
     call : Call
-    call = record { command = c; made = made; told = Some said.Memory }
+    call = record { command = c; made = made; told = Some said.Memory; reads = reads_of old }
 
 -- ---- a scan
 
@@ -409,23 +428,24 @@ module _ (store : StoreView) (own : OwnTransaction) (t : ℕ) where
       }
 
   module _ (old : Session) (is : IsSession store old) (open' : own_of old ≡ Some own) where
-    asks : (made : List Occurrence) → events_of sh (own_of old) old.session (Scan t) made ≡ asked
-    asks made = ap (λ o. events_of sh o old.session (Scan t) made) open'
+    asks : (made : List Occurrence) → events_of sh (own_of old) (reads_of old) old.session (Scan t) made ≡ asked
+    asks made = ap (λ o. events_of sh o (reads_of old) old.session (Scan t) made) open'
 
     granted_here : refusal_of (Scan t) (own_of old) ≡ None
     granted_here = ap (refusal_of (Scan t)) open'
 
-    -- a scan that read all blocks answers with the table's rows
-    pub scan_whole : (new : Session) (state : State) → Scans store old new own t (blocks_of sh t) state → Answers store old new (Scan t) (said.Scanned (contents_of t state))
-    scan_whole new state s = went_call store old new (Scan t) asked s.made (said.Scanned (contents_of t state)) is s.went (asks s.made) granted_here (inl (record {
-      events = s.events ∙ sym (asks s.made);
-      granted = plain_granted s.made s.plain;
-      line = ap (λ st. Some (said.Scanned (contents_of t st))) s.rows;
-    }))
+    -- a scan that read all blocks answers with the table's rows, and has read the table
+    pub scan_whole : (new : Session) (state : State) → Scans store old new own t (blocks_of sh t) state → Answers store old (swept t new) (Scan t) (said.Scanned (contents_of t state))
+    scan_whole new state s = went_swept store old new (with_one (read.Table t) (reads_of new)) (Scan t) asked s.made (said.Scanned (contents_of t state)) is s.went (asks s.made) granted_here
+        (ap (with_one (read.Table t)) s.went.kept) (inl (record {
+          events = s.events ∙ sym (asks s.made);
+          granted = plain_granted s.made s.plain;
+          line = ap (λ st. Some (said.Scanned (contents_of t st))) s.rows;
+        }))
 
     -- no memory for what was read
     pub scan_unlaid : (new : Session) (k : ℕ) (state : State) → k ≤ blocks_of sh t → Scans store old new own t k state → Answers store old new (Scan t) said.Memory
-    scan_unlaid new k state le s = went_call store old new (Scan t) asked s.made said.Memory is s.went (asks s.made) granted_here (inr (record {
+    scan_unlaid new k state le s = went_call store old new (Scan t) asked s.made said.Memory is s.went (asks s.made) granted_here refl (inr (record {
       may = refl;
       missed = map (event.Read own t) (rest_of (blocks_of sh t) k le).0;
       events = asks s.made ∙ ap (map (event.Read own t)) (rest_of (blocks_of sh t) k le).1 ∙ map-append (event.Read own t) (below k) (rest_of (blocks_of sh t) k le).0
@@ -442,7 +462,7 @@ module _ (store : StoreView) (own : OwnTransaction) (t : ℕ) where
         let le : k + 1 ≤ blocks_of sh t = omega (arith, lt) in
         let last : Occurrence = read_at old own t k parts told in
         let made = s.made ++ last ∷ [] in
-        went_call store old new (Scan t) asked made said.Memory is (went_on store old mid new own t k told asked s.made s.went r (is_asked k lt) keeps parts one) (asks made) granted_here (inr (record {
+        went_call store old new (Scan t) asked made said.Memory is (went_on store old mid new own t k told asked s.made s.went r (is_asked k lt) keeps parts one) (asks made) granted_here refl (inr (record {
           may = refl;
           missed = map (event.Read own t) (rest_of (blocks_of sh t) (k + 1) le).0;
           events = asks made ∙ ap (map (event.Read own t)) (rest_of (blocks_of sh t) (k + 1) le).1 ∙ map-append (event.Read own t) (below (k + 1)) (rest_of (blocks_of sh t) (k + 1) le).0
@@ -509,13 +529,12 @@ scans_count store old new own t k state s =
     let d = ap (λ (es : List CoreEvent). length es) s.events in
     omega (arith, a, b, c, d)
 
--- a scan that read all blocks answers with its rows, or that there was no memory for them
-pub scan_ends : {E : Type 0} (store : StoreView) (own : OwnTransaction) (t : ℕ) (old new : Session) (state : State) (r : Result (List Row) E)
+-- a scan that read all blocks answers with its rows
+pub scan_ends : (store : StoreView) (own : OwnTransaction) (t : ℕ) (old new : Session) (state : State) (rows : List Row)
     → IsSession store old → own_of old ≡ Some own → Scans store old new own t (blocks_of (shape_in store) t) state
-    → IfOk r (λ rows. rows ≡ contents_of t state) → Answers store old new (Scan t) (scanned_told r)
-scan_ends store own t old new state (Ok rows) is open' s same =
-    subst (λ (rows : List Row). Answers store old new (Scan t) (said.Scanned rows)) (sym same) (scan_whole store own t old is open' new state s)
-scan_ends store own t old new state (Err memory) is open' s same = scan_unlaid store own t old is open' new (blocks_of (shape_in store) t) state (omega arith) s
+    → rows ≡ contents_of t state → Answers store old (swept t new) (Scan t) (said.Scanned rows)
+scan_ends store own t old new state rows is open' s same =
+    subst (λ (rows : List Row). Answers store old (swept t new) (Scan t) (said.Scanned rows)) (sym same) (scan_whole store own t old is open' new state s)
 
 -- what holds in any case holds where there is an answer
 pub ok_if : {T E P : Type 0} (r : Result T E) → P → OnOk r P
@@ -563,7 +582,7 @@ module _ (store : StoreView) (own : OwnTransaction) (t : ℕ) where
 
     -- one block more was read, and there was no memory for it or for its rows
     pub steps_break : (is : IsSession store old) → own_of old ≡ Some own → (r.made ≡ [] → later ≤ steps) → ReadsOnce store old new t said.Memory spent later
-    unfolding scan_unread_one scan_unlent went_call unlent_call
+    unfolding scan_unread_one scan_unlent went_call went_swept unlent_call
     steps_break is open' unlooked = go r.is_read
       where
         go : IsReadOf mid.session own t k told r.made → ReadsOnce store old new t said.Memory spent later
@@ -576,13 +595,17 @@ module _ (store : StoreView) (own : OwnTransaction) (t : ℕ) where
           few = let first = s.few in let then = unlooked none'.1 in omega (arith, first, then);
         }
 
-  -- behind the last block
-  pub steps_end : {E : Type 0} (old new : Session) (state : State) (spent steps : ℕ) (result : Result (List Row) E) (is : IsSession store old) → own_of old ≡ Some own
-      → (s : ScansBy store old new own t (blocks_of (shape_in store) t) state spent steps) → IfOk result (λ rows. rows ≡ contents_of t state)
-      → ReadsOnce store old new t (scanned_told result) spent steps
-  unfolding scan_whole scan_unlaid went_call
-  steps_end old new state spent steps (Ok rows) is open' s same =
-      subst (λ (rows : List Row). ReadsOnce store old new t (said.Scanned rows) spent steps) (sym same)
+  -- behind the last block, with its rows or without memory for them
+  pub steps_end : (old new : Session) (state : State) (spent steps : ℕ) (rows : List Row) (is : IsSession store old) → own_of old ≡ Some own
+      → (s : ScansBy store old new own t (blocks_of (shape_in store) t) state spent steps) → rows ≡ contents_of t state
+      → ReadsOnce store old (swept t new) t (said.Scanned rows) spent steps
+  unfolding scan_whole went_swept
+  steps_end old new state spent steps rows is open' s same =
+      subst (λ (rows : List Row). ReadsOnce store old (swept t new) t (said.Scanned rows) spent steps) (sym same)
       (record { answers = scan_whole store own t old is open' new state s.scans; few = s.few })
-  steps_end old new state spent steps (Err memory) is open' s same =
+
+  pub steps_unlaid : (old new : Session) (state : State) (spent steps : ℕ) (is : IsSession store old) → own_of old ≡ Some own
+      → (s : ScansBy store old new own t (blocks_of (shape_in store) t) state spent steps) → ReadsOnce store old new t said.Memory spent steps
+  unfolding scan_unlaid went_call went_swept
+  steps_unlaid old new state spent steps is open' s =
       record { answers = scan_unlaid store own t old is open' new (blocks_of (shape_in store) t) state (omega arith) s.scans; few = s.few }

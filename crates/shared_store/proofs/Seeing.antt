@@ -1,5 +1,5 @@
 -- A block that was seen: lent, read by an event, or neither for want of memory.
-use Rattle.std.proofs.Common.{◌≡◌, ◌⊎◌, ℕ, ◌+◌, ◌*◌, ◌^◌, ◌<◌, ◌≤◌, Bool, true, false, cond, not, List, [], ◌∷◌, ◌++◌, Option, None, Some, length, refl, sym, ap, subst, ◌∙◌, append-nil, true≢false, arith}
+use Rattle.std.proofs.Common.{◌≡◌, ◌⊎◌, ℕ, ◌+◌, ◌*◌, ◌^◌, ◌<◌, ◌≤◌, Bool, true, false, cond, not, List, [], ◌∷◌, ◌++◌, Option, Some, length, refl, sym, ap, subst, ◌∙◌, true≢false, arith}
 use mathlib.Core.Logic.{inl, inr}
 use Rattle.std.specs.Prelude.{All, IsErr, Result, Ok, Err, count_by, slice_get}
 use Rattle.block_spec.specs.Bodies.{Body, is_imaged, rows_of}
@@ -20,7 +20,7 @@ use Rattle.shared_store.specs.Alone.{IsOnBody}
 use Rattle.event_spec.specs.Replies.{CoreReply, reply_to_read, rows_read}
 use Rattle.hall_rule.specs.declared.view.Entry.{Entry}
 use Rattle.run_spec.specs.Handed.{GoesOn, Stretch, own_in}
-use Rattle.run_spec.specs.Occurrences.{Logged, Occurrence}
+use Rattle.run_spec.specs.Occurrences.{Occurrence}
 use Rattle.run_spec.specs.Told.{is_shared, rows_told}
 use Rattle.store_laws.proofs.Calling.{event_stretch}
 use Rattle.store_laws.proofs.Lent.{lent_stretch}
@@ -28,13 +28,13 @@ use Rattle.store_laws.proofs.Stretches.{nothing_is_a_stretch, stretches_join}
 use Rattle.store_laws.specs.Logs.{log_of}
 use Rattle.store_laws.specs.Own.{entry_of, occurrence_at, parts_after}
 use Rattle.store_laws.specs.Stretches.{is_event}
-use Rattle.shared_store.specs.Lending.{HasImage, HasLent, ImagedIs, LendAnswers, LendView, Lends, LendsHeld}
+use Rattle.shared_store.specs.Lending.{HasLent, ImagedIs, LendAnswers, LendView, Lends, LendsHeld}
 use Rattle.shared_store.specs.Making.{Gives, Makes, MakesHeld, Takes}
 use Rattle.shared_store.specs.Reading.{MayReadHeld, ReadsBlock, SeesBlock}
 use Rattle.shared_store.specs.declared.reading.SeenBlock.{SeenBlock}
 use Rattle.shared_store.specs.declared.reading.SeenBlock.TheVariants as block
 use Rattle.shared_store.specs.declared.lending.LendFault.TheVariants as fault
-use Rattle.shared_store.specs.Store.{HandsView, IsAt, IsSession, IsWithin, SeatView, StoreView, TookPartsOf, events_made, own_of, seen, shape_in, taken_by, view_of}
+use Rattle.shared_store.specs.Store.{HandsView, IsAt, IsSession, IsWithin, SeatView, StoreView, TookPartsOf, events_made, own_of, seen, shape_in, taken_by, view_of, KeepsReads}
 use Rattle.shared_store.specs.declared.lending.LendFault.{LendFault}
 use Rattle.shared_store.specs.declared.session.Session.{Session}
 use Rattle.shared_store.proofs.BlockReads.{block_few, block_fits, holds_before, told_fits}
@@ -82,7 +82,7 @@ module _ (store : StoreView) (old new : Session) (table at : ℕ) (e : CoreEvent
     (takes : Takes store old.session old.pass.seat t hands (own_of old) e)
     (lends : LendsHeld store old.session t u hands later (own_of old) table at result)
     (gives : Gives store old.session u new.pass.seat new.pass.hands (own_of old))
-    (same : new.session ≡ old.session) (opened : own_of new ≡ own_of old)
+    (same : new.session ≡ old.session) (opened : own_of new ≡ own_of old) (kept : KeepsReads store old new)
   where
     log : new.pass.seat.me.0.log ≡ t.me.0.log
     log = gives.log ∙ lends.log
@@ -90,7 +90,7 @@ module _ (store : StoreView) (old new : Session) (table at : ℕ) (e : CoreEvent
     -- it is its session's as before
     pub seen_session : IsSession store new
     seen_session = session_is store new (subst (λ q. IsAt store q new.pass.seat new.pass.hands (own_of new)) (sym same)
-        (subst (IsAt store old.session new.pass.seat new.pass.hands) (sym opened) gives.stands))
+        (subst (IsAt store old.session new.pass.seat new.pass.hands) (sym opened) gives.stands)) kept.1
 
     pub seen_goes : GoesOn (seen old) (seen new)
     seen_goes = subst (λ (l : List (Entry CoreEvent)). GoesOn (seen old) (log_of l)) (sym log) takes.sees.goes_on
@@ -116,6 +116,7 @@ module _ (store : StoreView) (old new : Session) (table at : ℕ) (e : CoreEvent
         session = seen_session;
         same = same;
         opened = opened;
+        kept = kept.0;
         sees = seen_goes;
         own = seen_own;
         made = seen_mine;
@@ -140,6 +141,7 @@ module _ (store : StoreView) (old new : Session) (table at : ℕ) (e : CoreEvent
         session = seen_session;
         same = same;
         opened = opened;
+        kept = kept.0;
         made = [];
         is_read = inr (refl, refl);
         stretch = nothing;
@@ -180,6 +182,7 @@ module _ (store : StoreView) (old new : Session) (table at : ℕ) (e : CoreEvent
           session = seen_session;
           same = same;
           opened = opened;
+          kept = kept.0;
           made = last ∷ [];
           is_read = inl (parts, refl);
           stretch = stretches_join (shape_in store) old.session (seen old) (seen new) (seen new) [] (last ∷ []) nothing lent;
@@ -196,11 +199,12 @@ module _ (store : StoreView) (old new : Session) (table at : ℕ) (e : CoreEvent
 pub reads_made : (store : StoreView) (s new : Session) (own : OwnTransaction) (t b : ℕ) (told : CoreReply)
     → HasBlock (shape_in store) t b
     → Makes store s.session s.pass.seat new.pass.seat new.pass.hands (own_of s) (event.Read own t b) told → is_shared told ≡ false
-    → new.session ≡ s.session → own_of new ≡ own_of s → ReadsBlock store s new own t b told
-reads_made store s new own t b told has m unshared same opened = record {
+    → new.session ≡ s.session → own_of new ≡ own_of s → KeepsReads store s new → ReadsBlock store s new own t b told
+reads_made store s new own t b told has m unshared same opened kept = record {
   session = session;
   same = same;
   opened = opened;
+  kept = kept.0;
   made = occurrence_at s.session (parts_after (shape_in store) m.makes.before) (event.Read own t b) told ∷ [];
   is_read = inl (parts_after (shape_in store) m.makes.before, refl);
   stretch = event_stretch (shape_in store) s.session (seen s) (seen new) (event.Read own t b) told m.makes unshared;
@@ -213,7 +217,7 @@ reads_made store s new own t b told has m unshared same opened = record {
   where
     session : IsSession store new
     session = session_is store new (subst (λ q. IsAt store q new.pass.seat new.pass.hands (own_of new)) (sym same)
-        (subst (IsAt store s.session new.pass.seat new.pass.hands) (sym opened) m.stands))
+        (subst (IsAt store s.session new.pass.seat new.pass.hands) (sym opened) m.stands)) kept.1
 
     holds : CoreHolds (shape_in store) (parts_after (shape_in store) m.makes.before)
     holds = holds_before (shape_in store) m.makes.before (entry_of s.session (event.Read own t b) told) (seen new) m.stands.within.pass.of.1.begins m.makes.log session.lawful
@@ -264,14 +268,14 @@ held_told store session t u hands later own table at told within covers loose m 
 module _ (E : Type 0) (store : StoreView) (old new : Session) (table at : ℕ) (own : OwnTransaction) (t u : SeatView) (hands later : HandsView)
     (open' : own_of old ≡ Some own) (has : HasBlock (shape_in store) table at)
     (takes : Takes store old.session old.pass.seat t hands (own_of old) (event.Read own table at))
-    (same : new.session ≡ old.session) (opened : own_of new ≡ own_of old)
+    (same : new.session ≡ old.session) (opened : own_of new ≡ own_of old) (kept : KeepsReads store old new)
   where
     -- a block that was lent
     pub sees_lent : (lend : LendView) (spent : ℕ) → LendsHeld store old.session t u hands later (own_of old) table at (Ok lend) → Gives store old.session u new.pass.seat new.pass.hands (own_of old)
         → SeesBlock {E = E} store old new own table at spent spent (Ok (block.Lent lend))
     sees_lent lend spent lends gives =
-        let lent = seen_answers store old new table at (event.Read own table at) t u hands later (Ok lend) takes lends gives same opened in
-        let reads = reads_lent store old new table at (event.Read own table at) t u hands later (Ok lend) takes lends gives same opened own open' has refl lend (ap is_imaged lent.1.image.imaged) lent.1.image.rows in
+        let lent = seen_answers store old new table at (event.Read own table at) t u hands later (Ok lend) takes lends gives same opened kept in
+        let reads = reads_lent store old new table at (event.Read own table at) t u hands later (Ok lend) takes lends gives same opened kept own open' has refl lend (ap is_imaged lent.1.image.imaged) lent.1.image.rows in
         record {
           reads = reads;
           holds = record {
@@ -287,9 +291,9 @@ module _ (E : Type 0) (store : StoreView) (old new : Session) (table at : ℕ) (
     pub sees_none : (memory : E) (spent : ℕ) → LendsHeld store old.session t u hands later (own_of old) table at (Err fault.Memory) → Gives store old.session u new.pass.seat new.pass.hands (own_of old)
         → SeesBlock {E = E} store old new own table at spent spent (Err memory)
     sees_none memory spent lends gives =
-        let free = seen_answers store old new table at (event.Read own table at) t u hands later (Err fault.Memory) takes lends gives same opened in
+        let free = seen_answers store old new table at (event.Read own table at) t u hands later (Err fault.Memory) takes lends gives same opened kept in
         record {
-          reads = reads_none store old new table at (event.Read own table at) t u hands later (Err fault.Memory) takes lends gives same opened own open' has refl;
+          reads = reads_none store old new table at (event.Read own table at) t u hands later (Err fault.Memory) takes lends gives same opened kept own open' has refl;
           holds = free.0;
           looked = omega arith;
         }
@@ -317,7 +321,7 @@ module _ (E : Type 0) (store : StoreView) (old new : Session) (table at : ℕ) (
             → SeesBlock {E = E} store old new own table at spent steps (Ok (block.Rows rows))
         sees_rows rows made gives =
             let m = read_whole (reply.Rows rows) made gives in
-            let r = reads_made store old new own table at (reply.Rows rows) has m refl same opened in
+            let r = reads_made store old new own table at (reply.Rows rows) has m refl same opened kept in
             record { reads = r; holds = free (reply.Rows rows) made gives; looked = looked (reply.Rows rows) r m.count }
 
         -- one whose event was refused memory
@@ -325,7 +329,7 @@ module _ (E : Type 0) (store : StoreView) (old new : Session) (table at : ℕ) (
             → SeesBlock {E = E} store old new own table at spent steps (Err memory)
         sees_refused memory made gives =
             let m = read_whole reply.Memory made gives in
-            let r = reads_made store old new own table at reply.Memory has m refl same opened in
+            let r = reads_made store old new own table at reply.Memory has m refl same opened kept in
             record { reads = r; holds = free reply.Memory made gives; looked = looked reply.Memory r m.count }
 
 -- what is answered in any case of want of memory is so for one

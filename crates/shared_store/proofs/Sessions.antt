@@ -12,7 +12,8 @@ use Rattle.hall_rule.specs.declared.view.Entry.{Entry}
 use Rattle.event_spec.specs.Lawful.{Opened}
 use Rattle.store_laws.specs.Logs.{log_of, logged_of, store_meaning}
 use Rattle.store_laws.proofs.Entries.{lawful_same}
-use Rattle.shared_store.specs.Store.{IsAt, IsNamed, IsSession, IsStore, StoreView, own_of, shape_in}
+use Rattle.shared_store.specs.Store.{IsAt, IsNamed, IsSession, IsStore, StoreView, own_of, reads_of, shape_in}
+use Rattle.shared_store.specs.Reads.{ReadsFit}
 use Rattle.shared_store.specs.declared.session.Session.{Session}
 
 -- what the core means to the store's hall is what it means to the laws
@@ -31,10 +32,11 @@ each_named n [] named = All-nil (IsNamed n)
 each_named n (e ∷ log) named = All-cons (IsNamed n) (logged_of e) (log_of log) (named.0, named.1) (each_named n log named.2)
 
 -- a session is one where its pass is
-pub session_is : (store : StoreView) (s : Session) → IsAt store s.session s.pass.seat s.pass.hands (own_of s) → IsSession store s
-session_is store s is = record {
+pub session_is : (store : StoreView) (s : Session) → IsAt store s.session s.pass.seat s.pass.hands (own_of s) → ReadsFit (shape_in store) (reads_of s) → IsSession store s
+session_is store s is fits = record {
   stands = is;
   own = is.within.knows.own_is;
   lawful = lawful_same (shape_in store) s.pass.seat.me.0.log is.within.pass.of.1.lawful;
   named = each_named (shape_in store).passes s.pass.seat.me.0.log is.within.pass.of.1.tied.named;
+  fits = fits;
 }

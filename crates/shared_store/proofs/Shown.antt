@@ -19,7 +19,7 @@ use Rattle.store_laws.proofs.Calling.{goes_far}
 use Rattle.store_laws.proofs.Entries.{log_append}
 use Rattle.store_laws.proofs.Knowing.{joins_go_on}
 use Rattle.shared_store.specs.Meeting.{Meets, Sees}
-use Rattle.shared_store.specs.Store.{IsSession, HandsView, IsAt, IsStore, SeatView, StoreView, own_of, shape_in}
+use Rattle.shared_store.specs.Store.{IsSession, HandsView, IsAt, IsStore, SeatView, StoreView, own_of, shape_in, KeepsReads}
 use Rattle.shared_store.specs.declared.session.Session.{Session}
 use Rattle.shared_store.proofs.Open.{sees_on}
 use Rattle.shared_store.proofs.Sessions.{hall_meaning, is_meaning, session_is}
@@ -115,11 +115,12 @@ saw_and_stays store session old mid new held later own saw same stands = record 
 
 -- a session whose pass has seen more
 pub meets : (store : StoreView) (old new : Session) → Sees store old.session old.pass.seat.me.0 new.pass.seat new.pass.hands (own_of old)
-    → new.session ≡ old.session → own_of new ≡ own_of old → Meets store old new
-meets store old new saw same opened = record {
+    → new.session ≡ old.session → own_of new ≡ own_of old → KeepsReads store old new → Meets store old new
+meets store old new saw same opened kept = record {
   session = later;
   same = same;
   opened = opened;
+  kept = kept.0;
   sees = saw.sees.goes_on;
   own = saw.sees.same;
   made = saw.count;
@@ -130,4 +131,4 @@ meets store old new saw same opened = record {
   where
     later : IsSession store new
     later = session_is store new (subst (λ q. IsAt store q new.pass.seat new.pass.hands (own_of new)) (sym same)
-        (subst (IsAt store old.session new.pass.seat new.pass.hands) (sym opened) saw.stands))
+        (subst (IsAt store old.session new.pass.seat new.pass.hands) (sym opened) saw.stands)) kept.1

@@ -1,5 +1,5 @@
 -- Calls whose events are none of the machine's: what is open stays so.
-use Rattle.std.proofs.Common.{◌≡◌, ◌⊎◌, ℕ, ◌+◌, ◌≤◌, Bool, true, false, List, [], ◌∷◌, ◌++◌, Option, None, Some, Result, Ok, Err, is_some, fold, length, map, refl, sym, ap, subst, ◌∙◌, length-append, true≢false, arith}
+use Rattle.std.proofs.Common.{◌≡◌, ℕ, ◌≤◌, false, List, [], ◌∷◌, ◌++◌, Option, None, Some, Result, Ok, Err, is_some, fold, length, map, refl, sym, ap, subst, ◌∙◌, length-append, true≢false, arith}
 use mathlib.Core.Logic.{inl, inr}
 use Rattle.std.specs.Prelude.{IfOk, IsErr}
 use Rattle.std.specs.List.{filter_map, flat_map}
@@ -16,19 +16,18 @@ use Rattle.event_spec.specs.Parts.{Parts, Shape, below, blocks_of, tables_of}
 use Rattle.event_spec.specs.Plans.{plan_of}
 use Rattle.event_spec.specs.Replies.{CoreReply}
 use Rattle.isolation_spec.specs.Contents.{History, State, WriteSet, contents_of}
-use Rattle.run_spec.specs.Asked.{at_all_blocks, at_blocks, by_own, events_of, looks_in, moves, oldest_told, prunes}
+use Rattle.run_spec.specs.Asked.{at_all_blocks, at_blocks, by_own, events_of, looks_in, moves, oldest_told}
 use Rattle.run_spec.specs.Calls.{Call, IsCallBy}
 use Rattle.run_spec.specs.Handed.{GoesOn, Stretch, own_in}
 use Rattle.run_spec.specs.Traces.{as_log}
 use Rattle.store_laws.proofs.Lent.{EachEvent, events_each, events_grown, own_events, stretch_goes, whole_lawful, whole_log, whole_own, whole_under}
 use Rattle.store_laws.specs.Stretches.{is_event}
 use Rattle.std.proofs.lemmas.List.Sums.{count_by-le-length}
-use Rattle.run_spec.specs.Occurrences.{Logged, Occurrence, events_in, replies_in}
+use Rattle.run_spec.specs.Occurrences.{Occurrence, events_in, replies_in}
 use Rattle.run_spec.specs.Opened.{own_after, own_behind}
 use Rattle.run_spec.specs.Told.{refusal_of}
 use Rattle.store_laws.specs.Machines.{HasOpenIn, rows_seen}
-use Rattle.store_laws.specs.Own.{StandsUnder, occurrence_at, parts_after}
-use Rattle.store_laws.proofs.Calling.{made_on}
+use Rattle.store_laws.specs.Own.{StandsUnder}
 use Rattle.store_laws.proofs.Entries.{replay_same}
 use Rattle.store_laws.proofs.Machines.{AreQuiet, more_commits, quiet_on}
 use Rattle.store_laws.proofs.Scanning.{reads_tell_the_rows}
@@ -39,13 +38,14 @@ use Rattle.workload_spec.specs.declared.reply.Said.{Said}
 use Rattle.shared_store.specs.Open.{FindsRows, IsOpen, LeavesOpen, commits_seen, machine_of}
 use Rattle.shared_store.specs.Reading.{IsReadOf, ReadsBlock, Went}
 use Rattle.shared_store.specs.Scanning.{Scans}
-use Rattle.shared_store.specs.Store.{Answers, IsSession, MakesAtMost, StoreView, own_of, seen, shape_in}
+use Rattle.shared_store.specs.Store.{Answers, IsSession, MakesAtMost, StoreView, own_of, seen, shape_in, reads_of}
 use Rattle.shared_store.specs.Sweeping.{Sweeps}
 use Rattle.shared_store.specs.declared.session.Session.{Session}
 use Rattle.shared_store.proofs.Calls.{own_stands}
 use Rattle.shared_store.proofs.Open.{measures_of, under_of}
 use Rattle.shared_store.proofs.Scanned.{plain_granted}
 use Rattle.shared_store.proofs.Swept.{at_tables}
+use Rattle.isolation_spec.specs.Reads.{ReadSet}
 
 -- ---- events that ask the machine nothing
 
@@ -76,18 +76,18 @@ nothing_blocks shape e none' = nothing_flat (λ table. at_blocks shape table (e 
 
 -- ---- commands whose events are such
 
-module _ (shape : Shape) (own : Option OwnTransaction) (session : ℕ) (made : List Occurrence) where
-  pub scan_asks : (table : ℕ) → AskNothing (events_of shape own session (command.Scan table) made)
+module _ (shape : Shape) (own : Option OwnTransaction) (reads : Option ReadSet) (session : ℕ) (made : List Occurrence) where
+  pub scan_asks : (table : ℕ) → AskNothing (events_of shape own reads session (command.Scan table) made)
   scan_asks table = go own
     where
       go : (o : Option OwnTransaction) → AskNothing (by_own o (λ t. at_blocks shape table (event.Read t table)))
       go None = tt
       go (Some t) = nothing_of (event.Read t table) (λ block. refl) (below (blocks_of shape table))
 
-  pub observe_asks : AskNothing (events_of shape own session command.Observe made)
+  pub observe_asks : AskNothing (events_of shape own reads session command.Observe made)
   observe_asks = nothing_blocks shape event.Observe (λ table block. refl)
 
-  pub prune_asks : AskNothing (events_of shape own session command.Prune made)
+  pub prune_asks : AskNothing (events_of shape own reads session command.Prune made)
   prune_asks = (
     refl,
     nothing_flat (λ oldest. at_all_blocks shape (λ table block. event.Prune table block oldest))
@@ -95,7 +95,7 @@ module _ (shape : Shape) (own : Option OwnTransaction) (session : ℕ) (made : L
         (filter_map oldest_told (replies_in made)),
   )
 
-  pub compact_asks : (table : ℕ) → AskNothing (events_of shape own session (command.Compact table) made)
+  pub compact_asks : (table : ℕ) → AskNothing (events_of shape own reads session (command.Compact table) made)
   compact_asks table = nothing_both (at_blocks shape table (event.Look table)) (moves table (plan_of (looks_in made)))
       (nothing_of (event.Look table) (λ block. refl) (below (blocks_of shape table))) (go (plan_of (looks_in made)))
     where
@@ -103,24 +103,24 @@ module _ (shape : Shape) (own : Option OwnTransaction) (session : ℕ) (made : L
       go [] = tt
       go (pair ∷ pairs) = (refl, tt)
 
-  pub seal_asks : (table block : ℕ) → AskNothing (events_of shape own session (command.Seal table block) made)
+  pub seal_asks : (table block : ℕ) → AskNothing (events_of shape own reads session (command.Seal table block) made)
   seal_asks table block = (refl, tt)
 
-  pub gather_asks : (table block : ℕ) → AskNothing (events_of shape own session (command.Gather table block) made)
+  pub gather_asks : (table block : ℕ) → AskNothing (events_of shape own reads session (command.Gather table block) made)
   gather_asks table block = (refl, tt)
 
 -- ---- calls of such commands
 
 -- what a call made is among its command's events, which ask nothing
 made_asks : (shape : Shape) (session : ℕ) (own : Option OwnTransaction) (refusal : Option Said) (call : Call) → IsCallBy shape false session own refusal call
-    → AskNothing (events_of shape own session call.command call.made) → AskNothing (events_in call.made)
+    → AskNothing (events_of shape own call.reads session call.command call.made) → AskNothing (events_in call.made)
 made_asks shape session own (Some line) call is asks = subst (λ (made : List Occurrence). AskNothing (events_in made)) (sym is.0) tt
 made_asks shape session own None call (inl whole) asks = subst AskNothing (sym whole.events) asks
 made_asks shape session own None call (inr part) asks = nothing_front (events_in call.made) part.missed (subst AskNothing part.events asks)
 
 -- and it is no longer than they are
 made_few : (shape : Shape) (session : ℕ) (own : Option OwnTransaction) (refusal : Option Said) (call : Call) → IsCallBy shape false session own refusal call
-    → length call.made ≤ length (events_of shape own session call.command call.made)
+    → length call.made ≤ length (events_of shape own call.reads session call.command call.made)
 made_few shape session own (Some line) call is = let none' = ap (λ (made : List Occurrence). length made) is.0 in omega (arith, none')
 made_few shape session own None call (inl whole) =
     let same = ap (λ (es : List CoreEvent). length es) whole.events in
@@ -145,7 +145,7 @@ keeps_own own (event.Insert k table row) told is = cc
 keeps_own own (event.Update k table row) told is = cc
 keeps_own own (event.Delete k table key) told is = cc
 keeps_own own (event.Read t table block) told is = refl
-keeps_own own (event.Commit t) told is = cc
+keeps_own own (event.Commit t reads) told is = cc
 keeps_own own (event.Abort t) told is = cc
 keeps_own own event.Oldest told is = refl
 keeps_own own (event.Observe table block) told is = refl
@@ -219,20 +219,20 @@ module _ (store : StoreView) (old new : Session) (made : List Occurrence) (later
 
 -- A call of a command whose events ask nothing leaves what is open.
 pub call_leaves : (store : StoreView) (old new : Session) (c : Command) (line : Said) → IsSession store old → IsSession store new → new.session ≡ old.session
-    → Answers store old new c line → ((made : List Occurrence) → AskNothing (events_of (shape_in store) (own_after (own_in (shape_in store) old.session (seen old))) old.session c made))
+    → Answers store old new c line → ((made : List Occurrence) → AskNothing (events_of (shape_in store) (own_after (own_in (shape_in store) old.session (seen old))) (reads_of old) old.session c made))
     → LeavesOpen store old new
 call_leaves store old new c line is later same a asks =
     let front : Option OwnTransaction = own_after (own_in (shape_in store) old.session (seen old)) in
-    let none' = made_asks (shape_in store) old.session front (refusal_of c front) (record { command = c; made = a.made; told = Some line }) a.called.is_call (asks a.made) in
+    let none' = made_asks (shape_in store) old.session front (refusal_of c front) (record { command = c; made = a.made; told = Some line; reads = reads_of old }) a.called.is_call (asks a.made) in
     stretch_leaves store old new a.made later same a.called.stretch none' (stretch_keeps store old new a.made later same a.called.stretch none' is)
 
 -- and makes no more events than they are
 pub call_few : (store : StoreView) (old new : Session) (c : Command) (line : Said) (most : ℕ) → Answers store old new c line
-    → ((made : List Occurrence) → length (events_of (shape_in store) (own_after (own_in (shape_in store) old.session (seen old))) old.session c made) ≤ most)
+    → ((made : List Occurrence) → length (events_of (shape_in store) (own_after (own_in (shape_in store) old.session (seen old))) (reads_of old) old.session c made) ≤ most)
     → MakesAtMost most old new
 call_few store old new c line most a few =
     let front : Option OwnTransaction = own_after (own_in (shape_in store) old.session (seen old)) in
-    let one = made_few (shape_in store) old.session front (refusal_of c front) (record { command = c; made = a.made; told = Some line }) a.called.is_call in
+    let one = made_few (shape_in store) old.session front (refusal_of c front) (record { command = c; made = a.made; told = Some line; reads = reads_of old }) a.called.is_call in
     let two = few a.made in
     let count = a.count in
     let events = count_by-le-length is_event a.made in
@@ -318,3 +318,10 @@ scan_finds store old new own table state (Err memory) is some' s same commits wr
   is_open = (scan_leaves store old new own table (blocks_of (shape_in store) table) state s).is_open commits writes o;
   rows = tt;
 }
+
+-- Nor is anything said where there was no memory for the rows of all blocks.
+pub scan_unlaid_finds : {E : Type 0} (store : StoreView) (old new : Session) (own : OwnTransaction) (table : ℕ) (state : State) (found : Result (List Row) E)
+    → IsSession store old → own_of old ≡ Some own → Scans store old new own table (blocks_of (shape_in store) table) state
+    → IsErr found → FindsRows store old new table found
+scan_unlaid_finds store old new own table state (Ok rows) is some' s err = absurd (true≢false (sym err))
+scan_unlaid_finds store old new own table state (Err memory) is some' s err = scan_finds store old new own table state (Err memory) is some' s tt

@@ -14,7 +14,7 @@ use Rattle.run_spec.specs.Occurrences.{Occurrence}
 use Rattle.run_spec.specs.Opened.{own_behind}
 use Rattle.store_laws.specs.Own.{occurrence_at, parts_after}
 use Rattle.shared_store.specs.Making.{Makes, MakesAny}
-use Rattle.shared_store.specs.Store.{HandsView, IsAt, IsSession, SeatView, StoreView, own_of, shape_in}
+use Rattle.shared_store.specs.Store.{HandsView, IsAt, IsSession, SeatView, StoreView, own_of, shape_in, KeepsReads}
 use Rattle.shared_store.specs.Sweeping.{MakesAlone, Sweeps, SweepsMore}
 use Rattle.shared_store.specs.declared.session.Session.{Session}
 use Rattle.shared_store.proofs.Scanned.{below_more, plain_added, went_more, went_nowhere}
@@ -62,12 +62,13 @@ made_by store old seat hands e handed told is unnamed same made =
 -- it opens and ends nothing
 pub made_alone : (store : StoreView) (old new : Session) (e : CoreEvent) (told said : CoreReply)
     → Makes store old.session old.pass.seat new.pass.seat new.pass.hands (own_of old) e told → told ≡ said
-    → new.session ≡ old.session → own_of new ≡ own_of old → own_behind (own_of old) e told ≡ own_of old → MakesAlone store old new e said
-made_alone store old new e told said m is same opened stays = record {
+    → new.session ≡ old.session → own_of new ≡ own_of old → KeepsReads store old new → own_behind (own_of old) e told ≡ own_of old → MakesAlone store old new e said
+made_alone store old new e told said m is same opened kept stays = record {
   session = session_is store new (subst (λ q. IsAt store q new.pass.seat new.pass.hands (own_of new)) (sym same)
-      (subst (IsAt store old.session new.pass.seat new.pass.hands) (stays ∙ sym opened) m.stands));
+      (subst (IsAt store old.session new.pass.seat new.pass.hands) (stays ∙ sym opened) m.stands)) kept.1;
   same = same;
   opened = opened;
+  kept = kept.0;
   makes = subst (λ (r : CoreReply). Makes store old.session old.pass.seat new.pass.seat new.pass.hands (own_of old) e r) is m;
 }
 
@@ -91,7 +92,7 @@ module _ (store : StoreView) (asked : List CoreEvent) where
       → Sweeps store asked next first new (events ++ e ∷ [])
   sweeps_on tells next first mid new events e told s m among granted open' other adds = record {
     made = s.made ++ last ∷ [];
-    went = went_more store first mid new e told asked s.made s.went m.session m.same m.opened m.makes.makes m.makes.count m.makes.took among other (keeps_same m.makes.reads);
+    went = went_more store first mid new e told asked s.made s.went m.session m.same m.opened m.kept m.makes.makes m.makes.count m.makes.took among other (keeps_same m.makes.reads);
     events_are = map-append (λ (x : Occurrence). x.event) s.made (last ∷ []) ∙ ap (λ es. es ++ e ∷ []) s.events_are;
     plain = plain_added s.made last s.plain granted open';
     told = adds (parts_after (shape_in store) m.makes.makes.before) s.made s.told;

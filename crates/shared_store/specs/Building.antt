@@ -9,7 +9,7 @@ use Rattle.store_laws.specs.Logs.{log_of, store_meaning}
 use Rattle.store_laws.specs.Own.{StandsUnder}
 use Rattle.shared_store.specs.Making.{parts_seen}
 use Rattle.shared_store.specs.Store.{HandsView, IsFree, IsSession, SeatView, StoreView, events_made}
-use Rattle.shared_store.specs.Store.{own_of, seen, shape_in, taken_by}
+use Rattle.shared_store.specs.Store.{own_of, reads_of, seen, shape_in, taken_by}
 use Rattle.shared_store.specs.declared.session.Session.{Session}
 
 -- The first pass, while it has the sessions 1 to `count`: it made no event and took no part, and as
@@ -28,11 +28,12 @@ pub record HasSessions (store : StoreView) (count : ℕ) (seat : SeatView) (hand
   pub rests : (session : ℕ)
       → transaction (shape_in store) (parts_seen (shape_in store) seat.me.0) session ≡ None
 
--- It is the store's session of this number. It made no event and has nothing open.
+-- It is the store's session of this number. It made no event, has nothing open, and read nothing.
 pub record IsNewSession (store : StoreView) (number : ℕ) (s : Session) : Type 0 where
   pub session : IsSession store s
   pub numbered : s.session ≡ number
   pub rests : own_of s ≡ None
+  pub unread : reads_of s ≡ None
   pub made : events_made s ≡ 0
   pub none : own_in (shape_in store) number (seen s) ≡ []
   pub taken : taken_by s ≡ []

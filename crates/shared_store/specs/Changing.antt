@@ -12,7 +12,8 @@ use Rattle.event_spec.specs.declared.event.Event.TheVariants as event
 use Rattle.event_spec.specs.declared.own.OwnKey.{OwnKey}
 use Rattle.event_spec.specs.declared.own.OwnTransaction.{OwnTransaction}
 use Rattle.event_spec.specs.Effects.{CoreEvent}
-use Rattle.event_spec.specs.Lawful.{FitsIn, HasTable, IsThawed, Stands, takes_memory}
+use Rattle.event_spec.specs.Lawful.{FitsIn, HasTable, IsThawed, Stands, reads_handed}
+use Rattle.event_spec.specs.Lawful.{takes_memory}
 use Rattle.event_spec.specs.Parts.{CorePart, Name, Parts, Shape}
 use Rattle.event_spec.specs.Replies.{CoreReply, reply_to}
 use Rattle.event_spec.specs.Touched.{touched, touching}
@@ -23,6 +24,7 @@ use Rattle.isolation_spec.specs.Contents.{History, WriteSet, place_cmp, place_of
 use Rattle.isolation_spec.specs.declared.command.Act.TheVariants as act
 use Rattle.isolation_spec.specs.declared.command.Command.{Command as Asked}
 use Rattle.isolation_spec.specs.declared.place.Place.{Place}
+use Rattle.isolation_spec.specs.Reads.{ReadSet}
 use Rattle.store_laws.specs.OwnLaws.{HasOpened}
 use Rattle.run_spec.specs.Asked.{events_of, thaws}
 use Rattle.run_spec.specs.Calls.{is_cut_short, is_memory, is_refused, may_lack_memory}
@@ -107,6 +109,7 @@ pub record IsChangeTo (session : ℕ) (place : Place) (change : Option Row) (wri
     : Type 0 where
   pub asks : command_in write ≡ Some (change_asked session place change)
   pub there : IfSome change (λ row. place_of place.table row ≡ place)
+  pub unread : reads_handed write ≡ None
 
 -- From one log of a session to another its transaction has the same open, with this change its own
 -- where it was accepted.
@@ -185,8 +188,8 @@ pub record IsChangeBy
     : Type 0 where
   pub granted : refusal_of command own ≡ None
   pub may : may_lack_memory command ≡ true
-  pub events : (made : List Occurrence)
-      → events_of shape own session command made
+  pub events : (reads : Option ReadSet) (made : List Occurrence)
+      → events_of shape own reads session command made
       ≡ thaws shape place.table place.key made ++ write ∷ []
   pub line : (replies : List CoreReply) → line_of own command replies
       ≡ last_told place.table 0 replies

@@ -15,13 +15,14 @@ use Rattle.hall_steps.specs.Hall.{SameClaim, first_of}
 use Rattle.run_spec.specs.Opened.{own_behind}
 use Rattle.store_laws.specs.Laws.{IsOfSession}
 use Rattle.shared_store.specs.Making.{FitsEach, IsFew, Makes, Takes, parts_seen}
-use Rattle.shared_store.specs.Store.{HandsView, IsWithin, SeatView, StoreView, own_of}
+use Rattle.shared_store.specs.Store.{HandsView, IsWithin, SeatView, StoreView, own_of, reads_of}
 use Rattle.shared_store.specs.Store.{shape_in}
 use Rattle.shared_store.specs.declared.keeping.OnBlocks.{OnBlocks}
 use Rattle.shared_store.specs.declared.keeping.OnBlocks.TheVariants.{Observe, Prune}
 use Rattle.shared_store.specs.declared.session.Session.{Session}
 use Rattle.shared_store.specs.Observing.{observing}
 use Rattle.shared_store.specs.Pruning.{pruning}
+use Rattle.shared_store.specs.Reads.{ReadsFit}
 
 -- ---- parts that are kept
 
@@ -87,6 +88,7 @@ rested s = record {
   session = s.session;
   snapshot = s.snapshot;
   writes = s.writes;
+  reads = s.reads;
 }
 
 -- A session of this store, whose pass keeps parts from the block before this one on: none at the
@@ -94,6 +96,7 @@ rested s = record {
 pub record IsKeeping (store : StoreView) (common : Name → Bool) (block : ℕ) (s : Session)
     : Type 0 where
   pub within : IsWithin store s.session s.pass.seat s.pass.hands (own_of s)
+  pub fits : ReadsFit (shape_in store) (reads_of s)
   pub keeps : (block ≡ 0 → ⊥) → Keeps (shape_in store) common (first_of s.pass.hands)
 
 -- ---- taking and giving back

@@ -10,9 +10,11 @@ pub mod Meeting
 pub mod Observing
 pub mod Pruning
 pub mod Reading
+pub mod Reads
 pub mod Scanning
 pub mod Store
 pub mod Sweeping
+pub mod Taking
 pub mod Told
 pub mod Writing
 pub mod Open

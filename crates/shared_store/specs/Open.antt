@@ -9,8 +9,9 @@ use Rattle.isolation_spec.specs.Contents.{place_cmp}
 use Rattle.isolation_spec.specs.declared.place.Place.{Place}
 use Rattle.isolation_spec.specs.Machine.{IsolationMachine}
 use Rattle.store_laws.specs.Machines.{AddsCommit, HasMore, HasOpenIn, commits_in, machine_after}
-use Rattle.store_laws.specs.Machines.{rows_seen}
-use Rattle.shared_store.specs.Store.{StoreView, own_of, seen, shape_in}
+use Rattle.store_laws.specs.Machines.{rows_seen, stale_since}
+use Rattle.shared_store.specs.Store.{StoreView, own_of, reads_of, seen, shape_in}
+use Rattle.shared_store.specs.declared.faults.Stale.{Stale}
 use Rattle.shared_store.specs.declared.session.Session.{Session}
 
 -- the snapshot-isolation machine behind all that the session has seen of the log
@@ -95,13 +96,28 @@ WritesRow store old new place change (Ok done) = (commits : History) (own : Writ
     → IsOpen store new commits (insert_entry place_cmp own place change)
 WritesRow store old new place change (Err refused) = StaysOpen store old new
 
--- What the transaction wrote stands behind all commits before it, at the number that is told.
-pub record Adds (store : StoreView) (old new : Session) (own : WriteSet) (number : Option ℕ)
+-- What the transaction wrote stands behind all commits before it, at the number that is told. Where
+-- it is checked and wrote something, none of these commits that it does not see wrote into what it
+-- read.
+pub record Adds
+    (store : StoreView) (old new : Session) (commits : History) (own : WriteSet) (number : Option ℕ)
     : Type 0 where
   pub before : History
   pub goes_on : HasMore (commits_seen store old) before
   pub adds : AddsCommit before (commits_seen store new) own number
+  pub stands : stale_since before commits own (reads_of old) ≡ None
 
-abbrev pub Commits : StoreView → Session → Session → Option ℕ → Type 0
-Commits store old new number = (commits : History) (own : WriteSet)
-    → IsOpen store old commits own → Adds store old new own number
+-- The transaction stays open, and what it read stays what it was. Of its reads the one that is told
+-- is the first into which commits wrote that it does not see, the last of them at this number.
+pub record IsStale (store : StoreView) (old new : Session) (stale : Stale) : Type 0 where
+  pub opened : own_of new ≡ own_of old
+  pub reads : reads_of new ≡ reads_of old
+  pub is_open : StaysOpen store old new
+  pub wrote : (commits : History) (own : WriteSet) → IsOpen store old commits own
+      → stale_since (commits_seen store new) commits own (reads_of old)
+      ≡ Some (stale.read, stale.number)
+
+abbrev pub Commits : StoreView → Session → Session → Result (Option ℕ) Stale → Type 0
+Commits store old new (Ok number) = (commits : History) (own : WriteSet)
+    → IsOpen store old commits own → Adds store old new commits own number
+Commits store old new (Err stale) = IsStale store old new stale

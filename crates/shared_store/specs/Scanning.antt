@@ -1,5 +1,5 @@
 -- What a scan's reads tell, block after block, the rows by their places, and the steps.
-use Rattle.std.specs.Prelude.{◌≡◌, ⊤, ℕ, ◌+◌, ◌*◌, ◌≤◌, false, not, List, [], ◌∷◌, ◌++◌, count_by}
+use Rattle.std.specs.Prelude.{◌≡◌, ⊤, ℕ, ◌+◌, ◌*◌, ◌≤◌, false, not, List, [], ◌∷◌, count_by}
 use Rattle.std.specs.Prelude.{fold, flat_map, length, map, OnOk, Result}
 use Rattle.std.specs.BTreeMap.{insert_entry}
 use Rattle.block_spec.specs.Slots.{Row}

@@ -16,6 +16,8 @@ use Rattle.hall_rule.specs.Hands.{Holds}
 use Rattle.hall_rule.specs.declared.view.View.{View}
 use Rattle.hall_steps.specs.Hall.{HallView, IsPassAt, first_of}
 use Rattle.isolation_spec.specs.Contents.{PlaceMap}
+use Rattle.isolation_spec.specs.Reads.{ReadSet}
+use Rattle.isolation_spec.specs.declared.read.Read.TheVariants as read
 use Rattle.run_spec.specs.Asked.{events_of}
 use Rattle.run_spec.specs.Handed.{Called, GoesOn, own_in}
 use Rattle.run_spec.specs.Occurrences.{Logged, Occurrence}
@@ -27,7 +29,8 @@ use Rattle.txn_desk.specs.declared.Snapshot.{Snapshot}
 use Rattle.workload_spec.specs.declared.command.Command.{Command}
 use Rattle.workload_spec.specs.declared.reply.Said.{Said}
 use Rattle.workload_spec.specs.declared.reply.Said.TheVariants as said
-use Rattle.run_spec.specs.Calls.{is_refused}
+use Rattle.run_spec.specs.Calls.{is_refused, reads_behind}
+use Rattle.shared_store.specs.Reads.{ReadsFit, with_one}
 use Rattle.shared_store.specs.declared.session.Session.{Session}
 
 -- What contracts see of a store: its hall, with the core that it was built of.
@@ -91,6 +94,14 @@ opened_at session writes snapshot =
 abbrev pub own_of : Session → Option OwnTransaction
 own_of s = option_map (opened_at s.session s.writes) s.snapshot
 
+-- what that read, where it is checked
+abbrev pub reads_of : Session → Option ReadSet
+reads_of s = s.reads
+
+-- the session with a table read as a whole
+abbrev pub swept : ℕ → Session → Session
+swept table s = record s { reads = with_one (read.Table table) s.reads }
+
 -- the log as far as its pass saw it
 abbrev pub seen : Session → List Logged
 seen s = log_of s.pass.seat.me.0.log
@@ -120,13 +131,18 @@ taken_by s = s.pass.seat.me.0.taken
 abbrev pub IsNamed : ℕ → Logged → Type 0
 IsNamed passes entry = (1 ≤ entry.session) × (entry.session ≤ passes)
 
--- It is a session of this store: it has open what its own events told. Its log is lawful, and each
--- entry stands under a session of the store.
+-- It is a session of this store: it has open what its own events told, and what it read is of the
+-- store's tables. Its log is lawful, and each entry stands under a session of the store.
 pub record IsSession (store : StoreView) (s : Session) : Type 0 where
   pub stands : IsAt store s.session s.pass.seat s.pass.hands (own_of s)
   pub own : own_of s ≡ own_after (own_in (shape_in store) s.session (seen s))
   pub lawful : IsLawfulLog (shape_in store) (made_in (seen s))
   pub named : All (IsNamed (shape_in store).passes) (seen s)
+  pub fits : ReadsFit (shape_in store) (reads_of s)
+
+-- What was read is what it was, of the store's tables.
+abbrev pub KeepsReads : StoreView → Session → Session → Type 0
+KeepsReads store old new = (reads_of new ≡ reads_of old) × ReadsFit (shape_in store) (reads_of new)
 
 -- A session's pass may make so many events more: it makes fewer than 2 ^ 56.
 abbrev pub HasRoomFor : ℕ → Session → Type 0
@@ -178,18 +194,20 @@ EndsCall told made log = IfSome (last_or None made) (λ last. is_event last ≡ 
 
 -- The session carried out the command and was told this line: these are the events that it made,
 -- and the reads for which it lent blocks. It took no other parts than those that the command's
--- events touch, and has lent what it had lent.
+-- events touch, and has lent what it had lent. What its transaction read is what the call kept of
+-- it, and behind the call what the line tells besides.
 pub record Answers (store : StoreView) (old new : Session) (command : Command) (told : Said)
     : Type 0 where
   pub made : List Occurrence
   pub called : Called (shape_in store) false old.session (seen old) (seen new)
-      (record { command = command; made = made; told = Some told })
+      (record { command = command; made = made; told = Some told; reads = reads_of old })
+  pub keeps : reads_of new ≡ reads_behind (reads_of old) command told
   pub count : events_made new ≡ events_made old + count_by is_event made
   pub ends : EndsCall told made (seen new)
   pub reads : KeepsLend (view_of old) (view_of new)
   pub took : TookPartsOf
       (shape_in store)
-      (events_of (shape_in store) (own_of old) old.session command made)
+      (events_of (shape_in store) (own_of old) (reads_of old) old.session command made)
       (seen old)
       (seen new)
       (taken_by old)

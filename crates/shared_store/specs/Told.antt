@@ -1,10 +1,14 @@
 -- The lines that the calls' answers make.
-use Rattle.std.specs.Prelude.{ℕ, List, Option, None, Some, Result, Ok, Err}
+use mathlib.Core.Logic.{◌⊎◌}
+use Rattle.std.specs.Prelude.{◌≡◌, ℕ, List, Option, None, Some, Result, Ok, Err}
 use Rattle.block_spec.specs.declared.phase.SealFault.{SealFault}
 use Rattle.block_spec.specs.Slots.{Row}
-use Rattle.run_spec.specs.Told.{cause_told, fault_told, row_told}
+use Rattle.event_spec.specs.declared.reply.Reply.TheVariants as reply
+use Rattle.event_spec.specs.Replies.{CoreReply}
+use Rattle.run_spec.specs.Told.{cause_told, fault_told, row_told, stale_of}
 use Rattle.workload_spec.specs.declared.reply.Said.{Said}
 use Rattle.workload_spec.specs.declared.reply.Said.TheVariants as said
+use Rattle.shared_store.specs.declared.faults.Stale.{Stale}
 use Rattle.shared_store.specs.declared.faults.StoreFault.{StoreFault}
 use Rattle.shared_store.specs.declared.faults.StoreFault.TheVariants as fault
 
@@ -12,9 +16,22 @@ abbrev pub begun_told : {E : Type 0} → Result ℕ E → Said
 begun_told (Ok number) = said.At number
 begun_told (Err busy) = said.InTransaction
 
+abbrev pub committed_told : Result (Option ℕ) Stale → Said
+committed_told (Ok number) = said.Committed number
+committed_told (Err stale) = said.Stale (stale_of stale.read) stale.number
+
 abbrev pub found_told : {E : Type 0} → Result (Option Row) E → Said
 found_told (Ok row) = row_told row
 found_told (Err memory) = said.Memory
+
+-- the reply behind that answer
+abbrev pub found_replied : {E : Type 0} → Result (Option Row) E → CoreReply
+found_replied (Ok row) = reply.Found row
+found_replied (Err memory) = reply.Memory
+
+-- A get's event replies what it found, or that there was no memory.
+abbrev pub IsFoundReply : CoreReply → Type 0
+IsFoundReply told = (told ≡ reply.Memory) ⊎ ((row : Option Row) × (told ≡ reply.Found row))
 
 abbrev pub scanned_told : {E : Type 0} → Result (List Row) E → Said
 scanned_told (Ok rows) = said.Scanned rows

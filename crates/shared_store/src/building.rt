@@ -4,6 +4,7 @@ ghost use Rattle.engine_core.specs.Core.{MayOpen};
 ghost use Rattle.shared_store.specs.Building.{HasSessions, IsNewRow, IsNewSession};
 ghost use Rattle.shared_store.specs.Store.{shape_in};
 
+use crate::reads::Reads;
 use crate::session::Session;
 use crate::store::Store;
 use crate::writes::Writes;
@@ -26,14 +27,22 @@ impl Session {
     /// A session with nothing open.
     fn new(alloc: Global, pass: Pass<Core>, number: u32) -> Result<Session, AllocError>
         ensures { IfOk result (λ s.
-            s ≡ record { pass = pass; session = number; snapshot = None; writes = [] }) }
+            s ≡ record {
+              pass = pass;
+              session = number;
+              snapshot = None;
+              writes = [];
+              reads = None;
+            }) }
     {
         let writes = Writes::new(alloc)?;
+        let reads = Reads::new(alloc)?;
         Ok(Session {
             pass,
             session: number,
             snapshot: None,
             writes,
+            reads,
         })
     }
 }

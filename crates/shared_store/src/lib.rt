@@ -15,15 +15,17 @@ pub mod meeting;
 pub mod observing;
 pub mod pruning;
 pub mod reading;
+mod reads;
 pub mod scanning;
 pub mod session;
 pub mod store;
+mod taking;
 pub mod transactions;
 mod writes;
 pub mod writing;
 
 pub use building::Built;
-pub use faults::{Busy, StoreFault};
+pub use faults::{Busy, Stale, StoreFault};
 pub use lending::{Lend, LendFault};
 pub use reading::SeenBlock;
 pub use session::Session;

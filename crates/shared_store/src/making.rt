@@ -173,7 +173,7 @@ impl Store {
             pass.old.seat pass.old.hands pass.new.seat pass.new.hands event result }
     {
         let desk = self.hall.shape().desk();
-        self.take_for(rt, pass, &event);
+        self.take_at_desk(rt, pass, &event);
         let reply = self.make_on(pass, event);
         self.give_part(pass, desk);
         self.give_back(pass);

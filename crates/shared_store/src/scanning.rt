@@ -173,7 +173,7 @@ impl Store {
 
     /// All rows of a table that the session's transaction sees, in the order of their keys. Each
     /// row that is looked at is a step, and so is each that is made of a frozen block's columns or
-    /// of a copy of a block's.
+    /// of a copy of a block's. A checked transaction has read the whole table.
     ///
     /// # Errors
     ///
@@ -204,7 +204,9 @@ impl Store {
         for block in 0..shape.blocks(table) {
             self.read_into(rt, session, table, block, &mut by_place, steps)?;
         }
-        rows_in_order(shape.alloc(), table, by_place)
+        let rows = rows_in_order(shape.alloc(), table, by_place)?;
+        session.reads.mark(table);
+        Ok(rows)
     }
 
     /// Scans a table as [`Store::scan`] does, for a caller that counts no steps.

@@ -1,8 +1,9 @@
 //! A session of a store.
-ghost use Rattle.std.specs.Prelude.{◌≡◌, true, Some, option_map, is_some};
+ghost use Rattle.std.specs.Prelude.{◌≡◌, ◌<◌, true, Some, option_map, is_some};
 ghost use Rattle.run_spec.specs.Opened.{least_written, own_key};
-ghost use Rattle.shared_store.specs.Store.{events_made, own_of};
+ghost use Rattle.shared_store.specs.Store.{events_made, own_of, swept};
 
+use crate::reads::Reads;
 use crate::writes::Writes;
 use engine_core::Core;
 use event_spec::{OwnKey, OwnTransaction};
@@ -12,13 +13,14 @@ use std::sync::Wait;
 use txn_desk::Snapshot;
 
 /// A session: its pass of the hall, its number, counted from 1, the snapshot of its open
-/// transaction, and what that wrote.
+/// transaction, what that wrote, and where it is checked what it read.
 #[derive(Drop)]
 pub struct Session {
     pub(crate) pass: Pass<Core>,
     pub(crate) session: u32,
     pub(crate) snapshot: Option<Snapshot>,
     pub(crate) writes: Writes,
+    pub(crate) reads: Reads,
 }
 
 impl Session {
@@ -60,6 +62,15 @@ impl Session {
         ensures { option_map (least_written table) (own_of self.now) ≡ Some result }
     {
         self.writes.least_key(table)
+    }
+
+    /// Counts a table as read as a whole by the open transaction, as a scan does: for one who reads
+    /// it block by block. Of a plain transaction nothing is counted.
+    pub fn sweep(&mut self, table: u32)
+        requires { table < 16 }
+        ensures { self.new ≡ swept table self.old }
+    {
+        self.reads.mark(table);
     }
 }
 

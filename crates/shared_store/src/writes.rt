@@ -73,13 +73,13 @@ fn no_rows(alloc: Global) -> Result<Arc<BTreeMap<Place, SlotId>>, AllocError>
     Ok(Arc::new(alloc, BTreeMap::new(alloc))?)
 }
 
-/// One owner more of a map. It asks again only where the map has 2^63 - 1 owners, as many as can be
-/// counted, and waits for none of them to let go.
-fn share<R: Wait>(rt: &R, by_row: &Arc<BTreeMap<Place, SlotId>>) -> Arc<BTreeMap<Place, SlotId>>
-    ensures { arc_value result ≡ arc_value by_row.now }
+/// One owner more of a value. It asks again only where the value has 2^63 - 1 owners, as many as can
+/// be counted, and waits for none of them to let go.
+pub(crate) fn share<R: Wait, T>(rt: &R, owned: &Arc<T>) -> Arc<T>
+    ensures { arc_value result ≡ arc_value owned.now }
 {
     for _ in rt.forever() {
-        if let Ok(shared) = Arc::try_clone(by_row) {
+        if let Ok(shared) = Arc::try_clone(owned) {
             return shared;
         }
     }

@@ -37,7 +37,7 @@ latest-step : (q : Place) (at : ℕ) (writes : WriteSet) (later : History) (acc 
     → at_place (fold laid_over (laid_over acc writes) later) q ≡ left_by q at (writes ∷ later) (at_place acc q) (option_or o (cond (writes_place q writes) (Some at) None))
 latest-step q at writes later acc None is rest = rest ∙ here q at writes later (at_place acc q) (at_place writes q) refl
 latest-step q at writes later acc (Some number) is rest =
-    let found = last-some q (at + 1) later number is in
+    let found = last-some (writes_place q) refl (at + 1) later number is in
     rest ∙ sym (ap (λ (w : WriteSet). unwrap_or (at_place w q) None) (one-behind at number writes later (omega (arith, found.number_is))))
 
 -- commits leave at a place what the last of them that wrote it did, or else what was there
@@ -111,7 +111,7 @@ from_on low (Some number) = if nat_le low number then Some number else None
 all-from : (q : Place) (at : ℕ) (history : History) (o : Option ℕ) → last_writer q at history ≡ o → o ≡ from_on at o
 all-from q at history None is = refl
 all-from q at history (Some number) is =
-    let found = last-some q at history number is in
+    let found = last-some (writes_place q) refl at history number is in
     let above : at ≤ number = omega (arith, found.number_is) in
     let test : nat_le at number ≡ true = grind (arith, nat_tests, above) in
     rw test refl

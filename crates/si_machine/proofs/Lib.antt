@@ -7,3 +7,8 @@ pub mod Steps
 pub mod Marks
 pub mod Conflicts
 pub mod Ranges
+pub mod Sums
+pub mod Meetings
+pub mod Opened
+pub mod Stales
+pub mod Readings

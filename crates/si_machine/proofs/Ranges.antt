@@ -1,11 +1,11 @@
--- A table's places are those from its least key to its greatest, and each place with a row that is
--- seen is kept.
+-- The places between two of a table are those of it with keys between theirs, and each place with a
+-- row that is seen is kept.
 use Rattle.std.proofs.Common.{◌≡◌, ◌∙◌, ◌<◌, ℕ, nat_le, ℤ, pos, negsuc, ◌-◌, ◌^◌, Bool, true, false, cond, not, ◌&&◌, List, [], ◌∷◌, length, Option, None, Some, refl, sym, ap, arith}
 use Rattle.std.specs.Prelude.{◌==◌, eqb, int_lt, int_le, is_some, unwrap_or, take}
 use Rattle.std.specs.BTreeMap.Range.{range_contains}
 use Rattle.std.specs.Cmp.{nat_cmp_total, tied_itself}
 use Rattle.std.specs.FinMap.{nat_cmp-IsAntisymmetric}
-use Rattle.std.specs.List.{filter, filter_map, last_or}
+use Rattle.std.specs.List.{cons_option, filter, filter_map, last_or}
 use Rattle.std.specs.List.Sorted.{IsStrictlySortedBy}
 use Rattle.std.specs.Map.{keys_of}
 use Rattle.std.specs.Option.{option_map_or}
@@ -13,10 +13,11 @@ use Rattle.std.specs.Ordering.{int_cmp, nat_cmp, is_le, is_lt, ordering_then}
 use Rattle.std.specs.declared.cmp.Ordering.{Ordering}
 use Rattle.std.specs.declared.cmp.Ordering.TheVariants.{Less, Equal, Greater}
 use Rattle.std.specs.declared.ops.Bound.TheVariants.{Included}
-use Rattle.std.proofs.lemmas.Bool.{and_parts, eqb-true, and_from}
+use Rattle.std.proofs.lemmas.Bool.{eqb-true}
 use Rattle.std.proofs.lemmas.Int.{ints}
 use Rattle.cell_model.specs.declared.cell.Cell.{Cell}
-use Rattle.isolation_spec.specs.Contents.{at_place, contents_of, is_place, place_at, place_cmp, PlaceMap, State, state_at}
+use Rattle.cell_model.specs.Values.{is_between}
+use Rattle.isolation_spec.specs.Contents.{at_place, contents_between, contents_of, is_in_range, is_place, place_at, place_cmp, PlaceMap, State, state_at}
 use Rattle.isolation_spec.specs.declared.place.Place.{Place}
 use Rattle.isolation_spec.specs.Machine.{Transaction, seen_rows, writes_place}
 use Rattle.timeline_laws.proofs.Machine.{eqb-itself}
@@ -71,74 +72,102 @@ least_key = negsuc (2 ^ 63 - 1)
 abbrev pub greatest_key : ℤ
 greatest_key = pos (2 ^ 63 - 1)
 
--- A key that is not above another has the other not below it.
-not-under : (a b : ℤ) → int_le a b ≡ true → not (int_lt b a) ≡ true
-not-under a b h = grind (arith, ints)
+-- A comparison is less or equal exactly where one key is at most the other.
+at-most-by : (less more : Bool) (a b : ℤ) → int_lt a b ≡ less → int_lt b a ≡ more → is_le (cond less Less (cond more Greater Equal)) ≡ int_le a b
+at-most-by true more a b is_less is_more = grind (arith, ints)
+at-most-by false true a b is_less is_more = grind (arith, ints)
+at-most-by false false a b is_less is_more = grind (arith, ints)
 
--- A comparison that is not found greater is less or equal.
-first-not-above : (a b : Bool) → not b ≡ true → is_le (cond a Less (cond b Greater Equal)) ≡ true
-first-not-above true b h = refl
-first-not-above false true h = absurd (let never : ⊥ = cc in never)
-first-not-above false false h = refl
-
--- A comparison that is not found less is not less.
-last-not-below : (a b : Bool) → not a ≡ true → not (is_lt (cond a Less (cond b Greater Equal))) ≡ true
-last-not-below true b h = absurd (let never : ⊥ = cc in never)
-last-not-below false true h = refl
-last-not-below false false h = refl
+-- It is not less exactly where the other is at most the one.
+not-less-by : (less more : Bool) (a b : ℤ) → int_lt a b ≡ less → int_lt b a ≡ more → not (is_lt (cond less Less (cond more Greater Equal))) ≡ int_le b a
+not-less-by true more a b is_less is_more = grind (arith, ints)
+not-less-by false true a b is_less is_more = grind (arith, ints)
+not-less-by false false a b is_less is_more = grind (arith, ints)
 
 -- A place of another table is not in the table's range.
-apart-by : (table : ℕ) (q : Place) (o : Ordering) → nat_cmp table q.table ≡ o → (nat_cmp table q.table ≡ Equal → ⊥)
-    → (is_le (ordering_then o (int_cmp least_key q.key)) && not (is_lt (ordering_then o (int_cmp greatest_key q.key)))) ≡ false
-apart-by table q Less is apart = refl
-apart-by table q Equal is apart = absurd (apart is)
-apart-by table q Greater is apart = refl
+apart-by : (table : ℕ) (low high : ℤ) (q : Place) (o : Ordering) → nat_cmp table q.table ≡ o → (nat_cmp table q.table ≡ Equal → ⊥)
+    → (is_le (ordering_then o (int_cmp low q.key)) && not (is_lt (ordering_then o (int_cmp high q.key)))) ≡ false
+apart-by table low high q Less is apart = refl
+apart-by table low high q Equal is apart = absurd (apart is)
+apart-by table low high q Greater is apart = refl
 
--- A place whose key is of 64 bits is in a table's range exactly where it is of that table.
-in-range-by : (table : ℕ) (q : Place) (b : Bool) → (q.table == table) ≡ b → is_key q ≡ true
-    → (is_le (place_cmp (place_at table least_key) q) && not (is_lt (place_cmp (place_at table greatest_key) q))) ≡ b
-in-range-by table q true is key =
+-- A place is between two of a table exactly where it is of the table, with a key between theirs.
+in-range-by : (table : ℕ) (low high : ℤ) (q : Place) (b : Bool) → (q.table == table) ≡ b
+    → (is_le (place_cmp (place_at table low) q) && not (is_lt (place_cmp (place_at table high) q))) ≡ (b && is_between low high q.key)
+in-range-by table low high q true is =
     let same : q.table ≡ table = eqb-true q.table table is in
     let tied : nat_cmp table q.table ≡ Equal = ap (nat_cmp table) same ∙ tied_itself nat_cmp_total table in
-    let bounds = and_parts (int_le least_key q.key) (int_le q.key greatest_key) key in
-    ap (λ (o : Ordering). is_le (ordering_then o (int_cmp least_key q.key)) && not (is_lt (ordering_then o (int_cmp greatest_key q.key)))) tied
-    ∙ and_from (is_le (int_cmp least_key q.key)) (not (is_lt (int_cmp greatest_key q.key)))
-    (first-not-above (int_lt least_key q.key) (int_lt q.key least_key) (not-under least_key q.key bounds.0))
-    (last-not-below (int_lt greatest_key q.key) (int_lt q.key greatest_key) (not-under q.key greatest_key bounds.1))
-in-range-by table q false is key =
-    apart-by table q (nat_cmp table q.table) refl
+    ap (λ (o : Ordering). is_le (ordering_then o (int_cmp low q.key)) && not (is_lt (ordering_then o (int_cmp high q.key)))) tied
+    ∙ ap (λ (b : Bool). b && not (is_lt (int_cmp high q.key))) (at-most-by (int_lt low q.key) (int_lt q.key low) low q.key refl refl)
+    ∙ ap (λ (b : Bool). int_le low q.key && b) (not-less-by (int_lt high q.key) (int_lt q.key high) high q.key refl refl)
+in-range-by table low high q false is =
+    apart-by table low high q (nat_cmp table q.table) refl
     (λ tied. let same : table ≡ q.table = nat_cmp-IsAntisymmetric table q.table tied in let e : true ≡ false = sym (eqb-itself table) ∙ ap (λ (n : ℕ). eqb n table) same ∙ is in let never : ⊥ = cc in never)
 
-module _ {X : Type 0} (table : ℕ) where
-  -- the entry's place is one from the table's least key to its greatest
+module _ {X : Type 0} (table : ℕ) (low high : ℤ) where
+  -- the entry's place is between two of a table
   abbrev pub in_range : Place × X → Bool
-  in_range entry = range_contains place_cmp (Included (place_at table least_key)) (Included (place_at table greatest_key)) entry.0
+  in_range entry = range_contains place_cmp (Included (place_at table low)) (Included (place_at table high)) entry.0
 
-  -- An entry more is kept in the range where it is one of the table.
-  one-in-range : (entry : Place × X) (kept others : List (Place × X)) → in_range entry ≡ (entry.0.table == table) → kept ≡ others
-      → cond (in_range entry) (entry ∷ kept) kept ≡ cond (entry.0.table == table) (entry ∷ others) others
-  one-in-range entry kept others same rest = ap (λ (b : Bool). cond b (entry ∷ kept) kept) same ∙ ap (λ (es : List (Place × X)). cond (entry.0.table == table) (entry ∷ es) es) rest
+  -- the entries between two places of a table are those of it with keys between theirs
+  pub table-range : (entries : PlaceMap X) → filter in_range entries ≡ filter (λ entry. is_in_range table low high entry.0) entries
+  table-range [] = refl
+  table-range (entry ∷ entries) =
+      ap (λ (b : Bool). cond b (entry ∷ filter in_range entries) (filter in_range entries)) (in-range-by table low high entry.0 (entry.0.table == table) refl)
+      ∙ ap (λ (es : List (Place × X)). cond (is_in_range table low high entry.0) (entry ∷ es) es) (table-range entries)
 
-  -- where keys have 64 bits, the entries in a table's range are the table's
-  pub table-range : (entries : PlaceMap X) → ((place : Place) → is_some (at_place entries place) ≡ true → is_key place ≡ true)
-      → filter in_range entries ≡ filter (λ entry. entry.0.table == table) entries
-  table-range [] keys = refl
-  table-range (entry ∷ entries) keys =
-      one-in-range entry (filter in_range entries) (filter (λ entry. entry.0.table == table) entries)
-      (in-range-by table entry.0 (entry.0.table == table) refl (keys entry.0 (ap (λ (b : Bool). is_some (cond b (Some entry.1) (at_place entries entry.0))) (itself entry.0))))
-      (table-range entries (λ place h. keys place (still (is_place place entry.0) entry.1 (at_place entries place) h)))
-
--- What a scan finds in the range of a table are the contents that are seen.
-pub scanned : (ledger : Ledger) (at : ℕ) (none : OpenTransaction) (table : ℕ) → Belongs (machine_in ledger) ledger.writers → at < length ledger.transactions.items
+-- What is found between two places of a table are the rows that are seen of it there.
+pub scanned : (ledger : Ledger) (at : ℕ) (none : OpenTransaction) (table : ℕ) (low high : ℤ) → Belongs (machine_in ledger) ledger.writers → at < length ledger.transactions.items
     → IsStrictlySortedBy place_cmp (keys_of ledger.writers.places.entries)
-    → filter_map (λ entry. at_place (seen_rows (machine_in ledger) (open_at ledger at none)) entry.0) (filter (in_range table) ledger.writers.places.entries)
-    ≡ contents_of table (seen_rows (machine_in ledger) (open_at ledger at none))
-scanned ledger at none table h within sorted =
+    → filter_map (λ entry. at_place (seen_rows (machine_in ledger) (open_at ledger at none)) entry.0) (filter (in_range table low high) ledger.writers.places.entries)
+    ≡ contents_between table low high (seen_rows (machine_in ledger) (open_at ledger at none))
+scanned ledger at none table low high h within sorted =
     let t = open_at ledger at none in
     let own = kept-at ledger at none within h in
     let seen : State = seen_rows (machine_in ledger) t in
-    ap (filter_map (λ entry. at_place seen entry.0)) (table-range table ledger.writers.places.entries h.keys)
-    ∙ merged table ledger.writers.places.entries seen
+    ap (filter_map (λ entry. at_place seen entry.0)) (table-range table low high ledger.writers.places.entries)
+    ∙ merged (is_in_range table low high) ledger.writers.places.entries seen
     (rises-laid (state_at (machine_in ledger).history t.snapshot) t.own (rises-fold [] (take t.snapshot (machine_in ledger).history) tt))
     (rises-sorted ledger.writers.places.entries sorted)
     (λ place. covered-by (has_place ledger.writers place) (at_place seen place) (nothing-seen ledger t place h own.0 own.1))
+
+-- ---- all keys, and none
+
+-- Of keys that are turned none is between them.
+turned-none : (low high key : ℤ) → int_lt high low ≡ true → is_between low high key ≡ false
+turned-none low high key turned = grind (arith, ints)
+
+-- between two keys that are turned there is no row
+pub nothing-between : (table : ℕ) (low high : ℤ) (seen : State) → int_lt high low ≡ true → contents_between table low high seen ≡ []
+nothing-between table low high [] turned = refl
+nothing-between table low high (entry ∷ seen) turned =
+    ap (λ (b : Bool). cons_option (cond (entry.0.table == table && b) (Some entry.1) None) (contents_between table low high seen)) (turned-none low high entry.0.key turned)
+    ∙ ap (λ (b : Bool). cons_option (cond b (Some entry.1) None) (contents_between table low high seen)) (neither (entry.0.table == table))
+    ∙ nothing-between table low high seen turned
+  where
+    neither : (b : Bool) → (b && false) ≡ false
+    neither true = refl
+    neither false = refl
+
+-- the rows between the least and the greatest key are all of the table, where keys have 64 bits
+all-between : (table : ℕ) (seen : State) → ((place : Place) → is_some (at_place seen place) ≡ true → is_key place ≡ true) → contents_between table least_key greatest_key seen ≡ contents_of table seen
+all-between table [] keys = refl
+all-between table (entry ∷ seen) keys =
+    let key : is_between least_key greatest_key entry.0.key ≡ true = keys entry.0 (ap (λ (b : Bool). is_some (cond b (Some entry.1) (at_place seen entry.0))) (itself entry.0)) in
+    ap (λ (b : Bool). cons_option (cond (entry.0.table == table && b) (Some entry.1) None) (contents_between table least_key greatest_key seen)) key
+    ∙ ap (λ (b : Bool). cons_option (cond b (Some entry.1) None) (contents_between table least_key greatest_key seen)) (both (entry.0.table == table))
+    ∙ ap (cons_option (cond (entry.0.table == table) (Some entry.1) None)) (all-between table seen (λ place h. keys place (still (is_place place entry.0) entry.1 (at_place seen place) h)))
+  where
+    both : (b : Bool) → (b && true) ≡ b
+    both true = refl
+    both false = refl
+
+-- the rows that a transaction sees between the least and the greatest key are all of a table
+pub whole : (ledger : Ledger) (at : ℕ) (none : OpenTransaction) (table : ℕ) → Belongs (machine_in ledger) ledger.writers → at < length ledger.transactions.items
+    → contents_between table least_key greatest_key (seen_rows (machine_in ledger) (open_at ledger at none)) ≡ contents_of table (seen_rows (machine_in ledger) (open_at ledger at none))
+whole ledger at none table h within =
+    let t = open_at ledger at none in
+    let own = kept-at ledger at none within h in
+    let seen : State = seen_rows (machine_in ledger) t in
+    all-between table seen
+    (λ place some. h.keys place (covered-by (has_place ledger.writers place) (at_place seen place) (nothing-seen ledger t place h own.0 own.1) some))

@@ -1,18 +1,20 @@
--- A scan goes over places that rise, and finds the rows of its table in the order of their keys.
-use Rattle.std.proofs.Common.{◌≡◌, ℕ, Bool, true, false, cond, List, [], ◌∷◌, Option, None, Some, refl, sym, ap, ◌∙◌, subst}
-use Rattle.std.specs.Prelude.{◌==◌, is_some}
+-- A scan goes over places that rise, and finds the rows at those that pass a test in the order of
+-- their keys.
+use Rattle.std.proofs.Common.{◌≡◌, Bool, true, false, cond, List, [], ◌∷◌, Option, None, Some, refl, sym, ap, ◌∙◌, subst}
+use Rattle.std.specs.Prelude.{is_some}
 use Rattle.std.specs.List.{filter, filter_map, cons_option}
 use Rattle.std.specs.Ordering.{is_eq}
 use Rattle.std.specs.declared.cmp.Ordering.TheVariants.{Less}
 use Rattle.cell_model.specs.declared.cell.Cell.{Cell}
-use Rattle.isolation_spec.specs.Contents.{place_cmp, is_place, at_place, PlaceMap, State, contents_of}
+use Rattle.isolation_spec.specs.Contents.{place_cmp, is_place, at_place, PlaceMap, State}
+use Rattle.isolation_laws.proofs.Maps.{chosen}
 use Rattle.isolation_spec.specs.declared.place.Place.{Place}
 use Rattle.si_machine.specs.Kept.{Below, Rises}
 use Rattle.si_machine.proofs.Rising.{same-place, itself, at-below, below-less}
 
--- what is found at the places of a table among the entries
-abbrev pub found_in : {X : Type 0} → ℕ → State → PlaceMap X → List (List Cell)
-found_in table seen entries = filter_map (λ entry. at_place seen entry.0) (filter (λ entry. entry.0.table == table) entries)
+-- what is found at the places that pass a test among the entries
+abbrev pub found_in : {X : Type 0} → (Place → Bool) → State → PlaceMap X → List (List Cell)
+found_in test seen entries = filter_map (λ entry. at_place seen entry.0) (filter (λ entry. test entry.0) entries)
 
 -- a place below another isn't one with it
 unlike-by : (low high : Place) (b : Bool) → is_place high low ≡ b → place_cmp low high ≡ Less → b ≡ false
@@ -63,28 +65,28 @@ none-left : (seen : State) → ((place : Place) → is_some (at_place seen place
 none-left [] none = refl
 none-left (row ∷ seen) none = absurd (none row.0 (ap (λ (b : Bool). is_some (cond b (Some row.1) (at_place seen row.0))) (itself row.0)))
 
-module _ {X : Type 0} (table : ℕ) where
-  -- One entry more adds the row at its place where it is of the table and has one.
+module _ {X : Type 0} (test : Place → Bool) where
+  -- One entry more adds the row at its place where that passes and has one.
   one-more : (seen : State) (entry : Place × X) (entries : PlaceMap X) (b : Bool) (found : Option (List Cell)) → at_place seen entry.0 ≡ found
-      → filter_map (λ e. at_place seen e.0) (cond b (entry ∷ filter (λ e. e.0.table == table) entries) (filter (λ e. e.0.table == table) entries))
-      ≡ cons_option (cond b found None) (found_in table seen entries)
-  one-more seen entry entries true found is = ap (λ (o : Option (List Cell)). cons_option o (found_in table seen entries)) is
+      → filter_map (λ e. at_place seen e.0) (cond b (entry ∷ filter (λ e. test e.0) entries) (filter (λ e. test e.0) entries))
+      ≡ cons_option (cond b found None) (found_in test seen entries)
+  one-more seen entry entries true found is = ap (λ (o : Option (List Cell)). cons_option o (found_in test seen entries)) is
   one-more seen entry entries false found is = refl
 
   -- Without rows nothing is found at the places of the entries.
-  nothing-found : (entries : PlaceMap X) → found_in table [] entries ≡ []
+  nothing-found : (entries : PlaceMap X) → found_in test [] entries ≡ []
   nothing-found [] = refl
   nothing-found (entry ∷ entries) =
-      one-more [] entry entries (entry.0.table == table) None refl ∙ one-none (entry.0.table == table) (found_in table [] entries) ∙ nothing-found entries
+      one-more [] entry entries (test entry.0) None refl ∙ one-none (test entry.0) (found_in test [] entries) ∙ nothing-found entries
 
   -- A row below all entries is found at none of their places.
-  skipped : (row : Place × List Cell) (seen : State) (entries : PlaceMap X) → Below row.0 entries → found_in table (row ∷ seen) entries ≡ found_in table seen entries
+  skipped : (row : Place × List Cell) (seen : State) (entries : PlaceMap X) → Below row.0 entries → found_in test (row ∷ seen) entries ≡ found_in test seen entries
   skipped row seen [] below = refl
   skipped row seen (entry ∷ entries) below =
       let other : at_place (row ∷ seen) entry.0 ≡ at_place seen entry.0 = ap (λ (b : Bool). cond b (Some row.1) (at_place seen entry.0)) (unlike row.0 entry.0 below.0) in
-      one-more (row ∷ seen) entry entries (entry.0.table == table) (at_place seen entry.0) other
-      ∙ ap (cons_option (cond (entry.0.table == table) (at_place seen entry.0) None)) (skipped row seen entries below.1)
-      ∙ sym (one-more seen entry entries (entry.0.table == table) (at_place seen entry.0) refl)
+      one-more (row ∷ seen) entry entries (test entry.0) (at_place seen entry.0) other
+      ∙ ap (cons_option (cond (test entry.0) (at_place seen entry.0) None)) (skipped row seen entries below.1)
+      ∙ sym (one-more seen entry entries (test entry.0) (at_place seen entry.0) refl)
 
   -- each place with a row is one of the entries'
   abbrev pub Covers : State → PlaceMap X → Type 0
@@ -101,30 +103,30 @@ module _ {X : Type 0} (table : ℕ) where
   covers-rest seen entry entries below covers q h =
       either (is_place q entry.0) entry.1 (at_place entries q) (covers q h) (unlike entry.0 q (among q seen entry.0 below h))
 
-  -- With a first row and a first entry what is found is the contents, be their places one or not.
+  -- With a first row and a first entry what is found are the chosen rows, be their places one or not.
   merged-by : (row : Place × List Cell) (seen : State) (entry : Place × X) (entries : PlaceMap X) (b : Bool) → is_place row.0 entry.0 ≡ b
       → Rises (row ∷ seen) → Rises (entry ∷ entries) → Covers (row ∷ seen) (entry ∷ entries)
-      → ((seen : State) → Rises seen → Covers seen entries → found_in table seen entries ≡ contents_of table seen)
-      → found_in table (row ∷ seen) (entry ∷ entries) ≡ contents_of table (row ∷ seen)
+      → ((seen : State) → Rises seen → Covers seen entries → found_in test seen entries ≡ chosen test seen)
+      → found_in test (row ∷ seen) (entry ∷ entries) ≡ chosen test (row ∷ seen)
   merged-by row seen entry entries true is rises among_rises covers rest =
       let same : row.0 ≡ entry.0 = same-place row.0 entry.0 is in
       let found : at_place (row ∷ seen) entry.0 ≡ Some row.1 = ap (at_place (row ∷ seen)) (sym same) ∙ ap (λ (b : Bool). cond b (Some row.1) (at_place seen row.0)) (itself row.0) in
       let below : Below row.0 entries = subst (λ (p : Place). Below p entries) (sym same) among_rises.0 in
-      one-more (row ∷ seen) entry entries (entry.0.table == table) (Some row.1) found
-      ∙ ap (cons_option (cond (entry.0.table == table) (Some row.1) None)) (skipped row seen entries below ∙ rest seen rises.1 (covers-both row seen entry entries same rises.0 covers))
-      ∙ ap (λ (p : Place). cons_option (cond (p.table == table) (Some row.1) None) (contents_of table seen)) (sym same)
+      one-more (row ∷ seen) entry entries (test entry.0) (Some row.1) found
+      ∙ ap (cons_option (cond (test entry.0) (Some row.1) None)) (skipped row seen entries below ∙ rest seen rises.1 (covers-both row seen entry entries same rises.0 covers))
+      ∙ ap (λ (p : Place). cons_option (cond (test p) (Some row.1) None) (chosen test seen)) (sym same)
   merged-by row seen entry entries false is rises among_rises covers rest =
       let has : is_some (at_place (row ∷ seen) row.0) ≡ true = ap (λ (b : Bool). is_some (cond b (Some row.1) (at_place seen row.0))) (itself row.0) in
       let later : is_some (at_place entries row.0) ≡ true = either (is_place row.0 entry.0) entry.1 (at_place entries row.0) (covers row.0 has) is in
       let less : place_cmp entry.0 row.0 ≡ Less = among row.0 entries entry.0 among_rises.0 later in
       let below : Below entry.0 (row ∷ seen) = (less, below-less entry.0 row.0 seen less rises.0) in
-      one-more (row ∷ seen) entry entries (entry.0.table == table) None (at-below entry.0 (row ∷ seen) below)
-      ∙ one-none (entry.0.table == table) (found_in table (row ∷ seen) entries)
+      one-more (row ∷ seen) entry entries (test entry.0) None (at-below entry.0 (row ∷ seen) below)
+      ∙ one-none (test entry.0) (found_in test (row ∷ seen) entries)
       ∙ rest (row ∷ seen) rises (covers-rest (row ∷ seen) entry entries below covers)
 
-  -- The rows that are found at the table's places among the entries are the table's contents.
-  pub merged : (entries : PlaceMap X) (seen : State) → Rises seen → Rises entries → Covers seen entries → found_in table seen entries ≡ contents_of table seen
-  merged [] seen rises among_rises covers = sym (ap (contents_of table) (none-left seen (λ place h. let e : false ≡ true = covers place h in let never : ⊥ = cc in never)))
+  -- The rows that are found at places that pass among the entries are the chosen rows.
+  pub merged : (entries : PlaceMap X) (seen : State) → Rises seen → Rises entries → Covers seen entries → found_in test seen entries ≡ chosen test seen
+  merged [] seen rises among_rises covers = sym (ap (chosen test) (none-left seen (λ place h. let e : false ≡ true = covers place h in let never : ⊥ = cc in never)))
   merged (entry ∷ entries) [] rises among_rises covers = nothing-found (entry ∷ entries)
   merged (entry ∷ entries) (row ∷ seen) rises among_rises covers =
       merged-by row seen entry entries (is_place row.0 entry.0) refl rises among_rises covers

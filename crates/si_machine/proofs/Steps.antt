@@ -203,7 +203,7 @@ length-front (suc n) (w ∷ history) (suc i) h = let e : i < n = length-front n 
 pub state-found : (place : Place) (n number : ℕ) (history : History) → AllRise history → last_writer place 1 (take n history) ≡ Some number
     → at_place (state_at history n) place ≡ unwrap_or (at_place (get_or history (number - 1) []) place) None
 state-found place n number history h is =
-    let found = last-some place 1 (take n history) number is in
+    let found = last-some (writes_place place) refl 1 (take n history) number is in
     let within : number - 1 < n = let w = length-front n history found.index found.inside in omega (arith, w, found.number_is) in
     state-is place n history h
     ∙ ap (left_by place 1 (take n history) None) is

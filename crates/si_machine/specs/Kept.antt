@@ -1,11 +1,14 @@
 -- What the program keeps of the machine, and how that belongs together.
-use Rattle.std.specs.Prelude.{◌≡◌, ℕ, ◌+◌, ◌<◌, Bool, true, List, [], ◌∷◌, Result, Ok, Err, map}
-use Rattle.std.specs.Prelude.{if◌then◌else◌, is_some, slice_index_or, IsSomeAnd, vec_len}
+use Rattle.std.specs.Prelude.{◌≡◌, ℕ, ◌+◌, ◌-◌, ◌^◌, ◌<◌, ℤ, pos, negsuc, Bool, true, List, [], ◌∷◌}
+use Rattle.std.specs.Prelude.{Result, Ok, Err, map, Option, if◌then◌else◌, is_some, slice_index_or}
+use Rattle.std.specs.Prelude.{IsSomeAnd, vec_len}
 use Rattle.std.specs.Prelude.{vec_capacity}
+use Rattle.std.specs.BTreeMap.{BTreeMap}
 use Rattle.std.specs.Option.{option_map_or}
 use Rattle.std.specs.declared.cmp.Ordering.TheVariants.{Less}
+use Rattle.cell_model.specs.declared.cell.Cell.{Cell}
 use Rattle.cell_model.specs.declared.kind.Kind.TheVariants.{I64}
-use Rattle.cell_model.specs.Values.{is_integer_of}
+use Rattle.cell_model.specs.Values.{is_between, is_integer_of}
 use Rattle.isolation_spec.specs.Contents.{place_cmp, at_place, PlaceMap, History, key_of}
 use Rattle.isolation_spec.specs.Machine.{IsolationMachine, Transaction, writes_place}
 use Rattle.isolation_spec.specs.declared.command.Act.{Act}
@@ -21,13 +24,19 @@ use Rattle.si_machine.specs.declared.ledger.Ledger.{Ledger}
 abbrev pub is_key : Place → Bool
 is_key place = is_integer_of I64 place.key
 
--- the row that an act would write has such a key
+-- the number is one of the kinds', which have at most 64 bits
+abbrev pub is_number : ℤ → Bool
+is_number = is_between (negsuc (2 ^ 63 - 1)) (pos (2 ^ 64 - 1))
+
+-- the row that an act would write has such a key, and a total is asked of such numbers
 abbrev pub HasKey : Act → Type 0
 HasKey (act.Insert table row) = is_integer_of I64 (key_of row) ≡ true
 HasKey (act.Update table row) = is_integer_of I64 (key_of row) ≡ true
-HasKey act.Begin = Unit {0}
+HasKey (act.Total table column low high) = (is_number low ≡ true) × (is_number high ≡ true)
+HasKey (act.Begin checked) = Unit {0}
 HasKey (act.Get table key) = Unit {0}
 HasKey (act.Scan table) = Unit {0}
+HasKey (act.Range table low high) = Unit {0}
 HasKey (act.Delete table key) = Unit {0}
 HasKey act.Commit = Unit {0}
 HasKey act.Abort = Unit {0}
@@ -57,10 +66,14 @@ HasRoom writers place = IsSomeAnd (at_place writers.places.entries place)
 abbrev pub transaction_in : OpenTransaction → Transaction
 transaction_in t = record { session = t.session; snapshot = t.snapshot; own = t.own.entries }
 
+-- what commits wrote
+abbrev pub history_in : List (BTreeMap Place (Option (List Cell))) → History
+history_in commits = map (λ writes. writes.entries) commits
+
 -- the machine that is kept
 abbrev pub machine_in : Ledger → IsolationMachine
 machine_in ledger = record {
-  history = map (λ writes. writes.entries) ledger.commits.items;
+  history = history_in ledger.commits.items;
   open_transactions = map transaction_in ledger.transactions.items;
 }
 

@@ -4,19 +4,23 @@ ghost use Rattle.std.specs.Prelude.{is_some, length, map, not, option_copied, op
 ghost use Rattle.std.specs.Prelude.{slice_index_or, slice_set, true};
 ghost use Rattle.cell_model.specs.declared.kind.Kind.TheVariants as kind;
 ghost use Rattle.cell_model.specs.Values.{is_integer_of};
-ghost use Rattle.isolation_spec.specs.Contents.{at_place, key_of, place_of, state_at};
+ghost use Rattle.isolation_spec.specs.Checked.{stale_of};
+ghost use Rattle.isolation_spec.specs.Contents.{at_place, contents_between, contents_of, key_of};
+ghost use Rattle.isolation_spec.specs.Contents.{place_of, state_at};
 ghost use Rattle.isolation_spec.specs.Machine.{conflict_of, entered, opening, seen_rows, step};
 ghost use Rattle.isolation_spec.specs.Machine.{refusal_of_change, step_within, step_without};
 ghost use Rattle.isolation_spec.specs.Machine.{transaction_of, with_own, without, write};
 ghost use Rattle.isolation_spec.specs.Machine.{writes_place};
 ghost use Rattle.isolation_spec.specs.declared.command.Act.TheVariants as act;
 ghost use Rattle.si_machine.specs.declared.ledger.OpenTransaction.{OpenTransaction as Kept};
-ghost use Rattle.si_machine.specs.Kept.{Answers, HasKey, IsKept, is_key, machine_in, open_at};
-ghost use Rattle.si_machine.specs.Kept.{transaction_in};
+ghost use Rattle.si_machine.specs.Kept.{Answers, HasKey, IsKept, is_key, is_number, machine_in};
+ghost use Rattle.si_machine.specs.Kept.{open_at, transaction_in};
 
+use crate::reads::Reads;
+use crate::totals;
 use crate::writers::{Writers, Writes};
 use cell_model::{Cell, Row, Rows};
-use isolation_spec::{Act, Answer, Place};
+use isolation_spec::{Act, Answer, Place, Read};
 use std::alloc::{AllocError, Global};
 use std::collections::BTreeMap;
 
@@ -67,6 +71,18 @@ impl Ledger {
         }
     }
 
+    /// The read for which the commit of a session that read this is refused, and the last commit
+    /// that wrote into it.
+    pub(crate) fn stale(&self, session: u32, reads: &Reads) -> Option<(Read, usize)>
+        ensures { result ≡ stale_of (machine_in self.now) (Some reads.now) session act.Commit }
+    {
+        let t = &self.transactions[self.transaction_of(session)?];
+        if t.own.is_empty() {
+            return None;
+        }
+        reads.first_stale(&self.commits, t.snapshot)
+    }
+
     /// Where the open transaction of a session stands.
     fn transaction_of(&self, session: u32) -> Option<usize>
         ensures { result ≡ position (λ t. t.session == session) self.now.transactions.items }
@@ -84,9 +100,11 @@ impl Ledger {
         ensures err { OnErr result (machine_in self.new ≡ machine_in self.old) }
     {
         match act {
-            Act::Begin => self.begin(session),
+            Act::Begin { checked } => self.begin(session, checked),
             Act::Get { .. }
             | Act::Scan { .. }
+            | Act::Range { .. }
+            | Act::Total { .. }
             | Act::Insert { .. }
             | Act::Update { .. }
             | Act::Delete { .. }
@@ -96,12 +114,12 @@ impl Ledger {
     }
 
     /// Opens a transaction, which sees all commits.
-    fn begin(&mut self, session: u32) -> Result<Answer, AllocError>
+    fn begin(&mut self, session: u32, checked: bool) -> Result<Answer, AllocError>
         requires kept { IsKept self.old }
         requires none { transaction_of session (machine_in self.old) ≡ None }
         ensures kept { IsKept self.new }
-        ensures ok { IfOk result (λ said. step_without (machine_in self.old) session act.Begin
-            ≡ (said, machine_in self.new)) }
+        ensures ok { IfOk result (λ said. step_without (machine_in self.old) session
+            (act.Begin checked) ≡ (said, machine_in self.new)) }
         ensures err { OnErr result (machine_in self.new ≡ machine_in self.old) }
     {
         let snapshot = self.commits.len();
@@ -123,9 +141,16 @@ impl Ledger {
             self.old at result self.new }
     {
         match act {
-            Act::Begin => Ok(Answer::InTransaction),
+            Act::Begin { .. } => Ok(Answer::InTransaction),
             Act::Get { table, key } => self.get(at, Place { table, key }),
             Act::Scan { table } => self.scan(at, table),
+            Act::Range { table, low, high } => self.range(at, table, low, high),
+            Act::Total {
+                table,
+                column,
+                low,
+                high,
+            } => self.total(at, table, column, low, high),
             Act::Insert { table, row } => self.insert(at, table, row),
             Act::Update { table, row } => self.change(at, place_of(table, &row), Some(row)),
             Act::Delete { table, key } => self.change(at, Place { table, key }, None),
@@ -174,6 +199,38 @@ impl Ledger {
         }
     }
 
+    /// The rows of a table with a key between two, both counted, in the order of their keys.
+    fn between(&self, at: usize, table: u32, low: i64, high: i64) -> Result<Vec<Row>, AllocError>
+        requires kept { IsKept self.now }
+        requires there { at < length self.now.transactions.items }
+        ensures { IfOk result (λ rows. (none : Kept) → rows.items
+            ≡ contents_between table low high
+            (seen_rows (machine_in self.now) (open_at self.now at none))) }
+    {
+        let mut rows = Vec::new(self.alloc);
+        if low > high {
+            return Ok(rows);
+        }
+        let first = Place { table, key: low };
+        let last = Place { table, key: high };
+        for (place, _) in self.writers.places.range(first..=last) {
+            if let Some(row) = self.seen(at, place) {
+                rows.push(row.clone()?)?;
+            }
+        }
+        Ok(rows)
+    }
+
+    /// All rows of a table, in the order of their keys.
+    fn contents(&self, at: usize, table: u32) -> Result<Vec<Row>, AllocError>
+        requires kept { IsKept self.now }
+        requires there { at < length self.now.transactions.items }
+        ensures { IfOk result (λ rows. (none : Kept) → rows.items
+            ≡ contents_of table (seen_rows (machine_in self.now) (open_at self.now at none))) }
+    {
+        self.between(at, table, i64::MIN, i64::MAX)
+    }
+
     /// Asks for all rows of a table.
     fn scan(&self, at: usize, table: u32) -> Result<Answer, AllocError>
         requires kept { IsKept self.now }
@@ -181,21 +238,37 @@ impl Ledger {
         ensures { Answers (λ machine t. step_within machine t (act.Scan table))
             self.now at result self.now }
     {
-        let first = Place {
-            table,
-            key: i64::MIN,
-        };
-        let last = Place {
-            table,
-            key: i64::MAX,
-        };
-        let mut rows = Vec::new(self.alloc);
-        for (place, _) in self.writers.places.range(first..=last) {
-            if let Some(row) = self.seen(at, place) {
-                rows.push(row.clone()?)?;
-            }
-        }
-        Ok(Answer::Rows(Rows::from(rows)))
+        Ok(Answer::Rows(Rows::from(self.contents(at, table)?)))
+    }
+
+    /// Asks for the rows of a table with a key between two.
+    fn range(&self, at: usize, table: u32, low: i64, high: i64) -> Result<Answer, AllocError>
+        requires kept { IsKept self.now }
+        requires there { at < length self.now.transactions.items }
+        ensures { Answers (λ machine t. step_within machine t (act.Range table low high))
+            self.now at result self.now }
+    {
+        Ok(Answer::Rows(Rows::from(self.between(at, table, low, high)?)))
+    }
+
+    /// Asks how many numbers of a column lie between two, and for their sum.
+    fn total(
+        &self,
+        at: usize,
+        table: u32,
+        column: u32,
+        low: i128,
+        high: i128,
+    ) -> Result<Answer, AllocError>
+        requires kept { IsKept self.now }
+        requires there { at < length self.now.transactions.items }
+        requires low { is_number low ≡ true }
+        requires high { is_number high ≡ true }
+        ensures { Answers (λ machine t. step_within machine t (act.Total table column low high))
+            self.now at result self.now }
+    {
+        let rows = self.contents(at, table)?;
+        Ok(totals::told(&rows, column, low, high))
     }
 
     /// The session of another open transaction that wrote the place.

@@ -4,6 +4,8 @@
 
 mod ledger;
 mod machine;
+mod reads;
+mod totals;
 mod writers;
 
 pub use machine::Machine;

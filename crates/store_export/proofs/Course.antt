@@ -1,5 +1,5 @@
 -- An export's reads and what it sent, block after block, and how it ends.
-use Rattle.std.proofs.Common.{◌≡◌, ◌⊎◌, ℕ, ℤ, ◌+◌, ◌*◌, ◌-◌, ◌<◌, ◌≤◌, ◌^◌, Bool, true, false, cond, List, [], ◌∷◌, ◌++◌, Option, None, Some, Ok, Err, length, map, refl, sym, ap, subst, ◌∙◌, append-nil, length-append, arith}
+use Rattle.std.proofs.Common.{◌≡◌, ◌⊎◌, ℕ, ℤ, ◌+◌, ◌*◌, ◌-◌, ◌<◌, ◌≤◌, ◌^◌, Bool, true, false, List, [], ◌∷◌, ◌++◌, Option, None, Some, Ok, Err, length, map, refl, sym, ap, subst, ◌∙◌, arith}
 use mathlib.Core.Logic.{inl, inr}
 use native.Mathlib.Nat.{mul-add}
 use Rattle.std.specs.Prelude.{Result, count_by, flat_map, option_map}
@@ -9,7 +9,6 @@ use Rattle.std.proofs.lemmas.List.{map-append, length-map}
 use Rattle.std.proofs.lemmas.List.FromFn.{length-range_with_len}
 use Rattle.std.proofs.lemmas.Option.{same_Some}
 use Rattle.arrow_spec.specs.Streams.{end_word, schema_message, stream_of}
-use Rattle.block_spec.specs.Slots.{Row}
 use Rattle.byte_ports.specs.Calls.{AppendsFront, Rose}
 use Rattle.cell_model.specs.declared.column.Column.{Column}
 use Rattle.event_spec.specs.declared.event.Event.TheVariants as event
@@ -25,13 +24,13 @@ use Rattle.ipc_write.specs.declared.faults.PieceFault.{PieceFault}
 use Rattle.ipc_write.specs.declared.faults.PieceFault.TheVariants.{Sink, Memory}
 use Rattle.ipc_write.specs.declared.faults.SinkFault.{SinkFault}
 use Rattle.run_spec.specs.Asked.{at_blocks, events_of}
-use Rattle.run_spec.specs.Calls.{Call, IsCallBy, IsPart, IsWhole, is_cut_short, is_memory}
+use Rattle.run_spec.specs.Calls.{Call, IsCallBy, IsPart, IsWhole, is_cut_short, is_memory, reads_behind}
 use Rattle.run_spec.specs.Occurrences.{Occurrence, events_in, replies_in}
 use Rattle.run_spec.specs.Opened.{least_written}
 use Rattle.run_spec.specs.Told.{is_shared, is_some_row, refusal_of, rows_told, summary_of}
 use Rattle.shared_store.specs.Reading.{IsReadOf, ReadsBlock, Went}
 use Rattle.shared_store.specs.Scanning.{ArePlain}
-use Rattle.shared_store.specs.Store.{Answers, IsFree, IsSession, KeepsLend, StoreView, TookPartsOf, own_of, seen, shape_in, taken_by, view_of}
+use Rattle.shared_store.specs.Store.{Answers, IsFree, IsSession, KeepsLend, StoreView, TookPartsOf, own_of, seen, shape_in, taken_by, view_of, reads_of, swept}
 use Rattle.shared_store.specs.declared.session.Session.{Session}
 use Rattle.shared_store.proofs.Calls.{ends_call, refused_call, took_none}
 use Rattle.shared_store.proofs.Claims.{keeps_none, keeps_stays}
@@ -48,6 +47,9 @@ use Rattle.store_export.specs.declared.exporting.ExportFault.TheVariants as expo
 use Rattle.store_export.specs.declared.exporting.Summary.{Summary}
 use Rattle.store_export.specs.declared.sent.Sent.{Sent}
 use Rattle.store_export.proofs.Breaking.{HasBroken, HasSent, breaks_before, breaks_behind, breaks_first, breaks_last, breaks_nowhere, breaks_there, breaks_within, sending_begins, sending_ends, sending_goes_on}
+use Rattle.shared_store.specs.Reads.{ReadSet}
+use Rattle.shared_store.proofs.ReadSets.{swept_export, swept_session}
+use Rattle.event_spec.specs.Lawful.{HasTable}
 
 -- An event of a session at these parts, with its reply.
 abbrev event_at : ℕ → Parts → CoreEvent → CoreReply → Occurrence
@@ -300,27 +302,30 @@ module _ (store : StoreView) (own : OwnTransaction) (t : ℕ) where
   -- ---- how it ends
 
   -- an export with these events and this line
-  abbrev export_call : List Occurrence → Said → Call
-  export_call made line = record { command = command.Export t; made = made; told = Some line }
+  abbrev export_call : Option ReadSet → List Occurrence → Said → Call
+  export_call read_before made line = record { command = command.Export t; made = made; told = Some line; reads = read_before }
 
   module _ (old : Session) (is : IsSession store old) (open' : own_of old ≡ Some own) (clean : least_written t own ≡ None) where
-    asks : (made : List Occurrence) → events_of sh (own_of old) old.session (command.Export t) made ≡ asked
-    asks made = ap (λ o. events_of sh o old.session (command.Export t) made) open'
+    asks : (made : List Occurrence) → events_of sh (own_of old) (reads_of old) old.session (command.Export t) made ≡ asked
+    asks made = ap (λ o. events_of sh o (reads_of old) old.session (command.Export t) made) open'
 
     granted_here : refusal_of (command.Export t) (own_of old) ≡ None
     granted_here = ap (refusal_of (command.Export t)) open' ∙ ap (option_map said.Dirty) clean
 
-    -- what the events made is the call of an export, told as it is
-    answered : (new : Session) (made : List Occurrence) (line : Said) → Went store old new asked made
-        → IsWhole sh false old.session (own_of old) (export_call made line) ⊎ IsPart sh old.session (own_of old) (export_call made line)
-        → (a : Answers store old new (command.Export t) line) × (a.made ≡ made)
-    answered new made line w either = (
+    -- what the events made is the call of an export, told as it is, whose session has read what that
+    -- tells
+    answered : (new : Session) (read : Option ReadSet) (made : List Occurrence) (line : Said) → Went store old new asked made
+        → read ≡ reads_behind (reads_of old) (command.Export t) line
+        → IsWhole sh false old.session (own_of old) (export_call (reads_of old) made line) ⊎ IsPart sh old.session (own_of old) (export_call (reads_of old) made line)
+        → (a : Answers store old (record new { reads = read }) (command.Export t) line) × (a.made ≡ made)
+    answered new read made line w keeps either = (
       record {
         made = made;
+        keeps = keeps;
         called = record {
           stretch = w.stretch;
-          is_call = subst (λ o. IsCallBy sh false old.session o (refusal_of (command.Export t) o) (export_call made line)) is.own
-              (subst (λ r. IsCallBy sh false old.session (own_of old) r (export_call made line)) (sym granted_here) either);
+          is_call = subst (λ o. IsCallBy sh false old.session o (refusal_of (command.Export t) o) (export_call (reads_of old) made line)) is.own
+              (subst (λ r. IsCallBy sh false old.session (own_of old) r (export_call (reads_of old) made line)) (sym granted_here) either);
         };
         count = w.count;
         ends = ends_call line made (seen new) w.ends;
@@ -332,7 +337,7 @@ module _ (store : StoreView) (own : OwnTransaction) (t : ℕ) where
 
     -- Some reads are a call that is cut short.
     is_part : (n : ℕ) (made : List Occurrence) → n ≤ blocks_of sh t → events_in made ≡ map (event.Read own t) (below n) → is_cut_short made ≡ true
-        → IsPart sh old.session (own_of old) (export_call made said.Memory)
+        → IsPart sh old.session (own_of old) (export_call (reads_of old) made said.Memory)
     is_part n made le events cut = record {
       may = refl;
       missed = map (event.Read own t) (rest_of (blocks_of sh t) n le).0;
@@ -345,7 +350,7 @@ module _ (store : StoreView) (own : OwnTransaction) (t : ℕ) where
     -- memory was wanting behind some reads
     part_call : (new : Session) (n : ℕ) (made : List Occurrence) → n ≤ blocks_of sh t → Went store old new asked made → events_in made ≡ map (event.Read own t) (below n)
         → is_cut_short made ≡ true → (a : Answers store old new (command.Export t) said.Memory) × (a.made ≡ made)
-    part_call new n made le w events cut = answered new made said.Memory w (inr (is_part n made le events cut))
+    part_call new n made le w events cut = answered new (reads_of new) made said.Memory w w.kept (inr (is_part n made le events cut))
 
     -- An export that was told so of these reads broke off.
     broke_by : (new : Session) (n : ℕ) (made : List Occurrence) (before now : Option (List ℕ)) (spent steps : ℕ) → n ≤ blocks_of sh t
@@ -472,24 +477,26 @@ module _ (store : StoreView) (own : OwnTransaction) (t : ℕ) where
 
     -- the stream has ended
     whole_call : (new : Session) (before now : Option (List ℕ)) (sent : Sent) (spent steps : ℕ) → (s : Sending store old new own t (blocks_of sh t) before now sent spent steps)
-        → (a : Answers store old new (command.Export t) (said.Exported own.snapshot.number sent.rows sent.batches sent.frozen)) × (a.made ≡ s.made)
-    whole_call new before now sent spent steps s = answered new s.made (said.Exported own.snapshot.number sent.rows sent.batches sent.frozen) s.went (inl (record {
-      events = s.events ∙ sym (asks s.made);
-      granted = plain_granted s.made s.plain;
-      line = ap (λ n. Some (said.Exported own.snapshot.number n sent.batches sent.frozen)) s.rows_are
-          ∙ ap (λ n. Some (said.Exported own.snapshot.number (rows_all (replies_in s.made)) n sent.frozen)) s.batches_are
-          ∙ ap (λ n. Some (said.Exported own.snapshot.number (rows_all (replies_in s.made)) (count_by with_row (replies_in s.made)) n)) s.frozen_are
-          ∙ sym (ap (option_map (λ (x : OwnTransaction). summary_of x (replies_in s.made))) open');
-    }))
+        → (a : Answers store old (swept t new) (command.Export t) (said.Exported own.snapshot.number sent.rows sent.batches sent.frozen)) × (a.made ≡ s.made)
+    whole_call new before now sent spent steps s = answered new (reads_of (swept t new)) s.made (said.Exported own.snapshot.number sent.rows sent.batches sent.frozen) s.went
+        (swept_export old new t own.snapshot.number sent.rows sent.batches sent.frozen s.went.kept) (inl (record {
+          events = s.events ∙ sym (asks s.made);
+          granted = plain_granted s.made s.plain;
+          line = ap (λ n. Some (said.Exported own.snapshot.number n sent.batches sent.frozen)) s.rows_are
+              ∙ ap (λ n. Some (said.Exported own.snapshot.number (rows_all (replies_in s.made)) n sent.frozen)) s.batches_are
+              ∙ ap (λ n. Some (said.Exported own.snapshot.number (rows_all (replies_in s.made)) (count_by with_row (replies_in s.made)) n)) s.frozen_are
+              ∙ sym (ap (option_map (λ (x : OwnTransaction). summary_of x (replies_in s.made))) open');
+        }))
 
-    -- behind all blocks the end word is sent, and the export tells what it sent
-    pub ended : (new : Session) (before between now : Option (List ℕ)) (sent : Sent) (spent steps : ℕ) → Sending store old new own t (blocks_of sh t) before between sent spent steps
-        → Appends between now end_word → ExportsCounted store old new t (said.Exported own.snapshot.number sent.rows sent.batches sent.frozen) before now spent steps
-    ended new before between now sent spent steps s last =
+    -- behind all blocks the end word is sent, and the export tells what it sent; its session has read
+    -- the table
+    pub ended : HasTable sh t → (new : Session) (before between now : Option (List ℕ)) (sent : Sent) (spent steps : ℕ) → Sending store old new own t (blocks_of sh t) before between sent spent steps
+        → Appends between now end_word → ExportsCounted store old (swept t new) t (said.Exported own.snapshot.number sent.rows sent.batches sent.frozen) before now spent steps
+    ended has new before between now sent spent steps s last =
         let a = whole_call new before between sent spent steps s in
         record {
           exports = record {
-            session = s.went.session;
+            session = swept_session store new t has s.went.session;
             same = s.went.same;
             opened = s.went.opened;
             answers = a.0;
@@ -527,11 +534,12 @@ refused store old t key before spent is written = record {
     a = (
       record {
         made = [];
-        called = refused_call (shape_in store) old.session (seen old) (own_of old) is.own (command.Export t) (said.Dirty key) (go (own_of old) written);
+        keeps = refl;
+        called = refused_call (shape_in store) old.session (seen old) (own_of old) is.own (reads_of old) (command.Export t) (said.Dirty key) (go (own_of old) written);
         count = omega arith;
         ends = tt;
         reads = keeps_stays;
-        took = took_none (shape_in store) (events_of (shape_in store) (own_of old) old.session (command.Export t) []) (seen old) (taken_by old);
+        took = took_none (shape_in store) (events_of (shape_in store) (own_of old) (reads_of old) old.session (command.Export t) []) (seen old) (taken_by old);
       },
       refl,
     )

@@ -1,6 +1,5 @@
 -- The messages of a block's rows and of its image are one.
-use Rattle.std.proofs.Common.{◌≡◌, ◌∙◌, ℕ, zero, suc, ◌<◌, true, false, Err, Option, None, Some, List, [], ◌∷◌, length, take, get_or, refl, sym, ap, arith}
-use Rattle.std.specs.Prelude.{IsSome, flat_map, option_to_list}
+use Rattle.std.proofs.Common.{◌≡◌, ◌∙◌, ℕ, Err, Option, List, [], ◌∷◌, length, refl, sym, ap}
 use Rattle.arrow_spec.specs.Streams.{batch_message}
 use Rattle.block_columns.specs.Images.{ImageValue, IsWhole, rows_of}
 use Rattle.block_spec.specs.Slots.{Row}

@@ -47,7 +47,8 @@ pub enum ExportFault {
 /// Exports a table as the session's transaction sees it, as an Arrow stream: its schema, a batch
 /// for each block that has a row, and its end. A frozen block lends its image, from which the batch
 /// is written and of which no row is read; the lend is given back before the next block and before
-/// any answer. Of any other block each row that is looked at is a step.
+/// any answer. Of any other block each row that is looked at is a step. A checked transaction has
+/// read the whole table.
 ///
 /// # Errors
 ///

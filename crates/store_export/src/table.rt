@@ -141,7 +141,10 @@ pub(crate) fn send_table<R: Wait, L: Ledger, W: Sink>(
         }
     }
     match writer.finish() {
-        Ok(()) => Ok(sent),
+        Ok(()) => {
+            session.sweep(table);
+            Ok(sent)
+        }
         Err(fault) => Err(PieceFault::Sink(fault)),
     }
 }

@@ -42,7 +42,7 @@ event_stretch shape session old new e told m unshared =
 
 -- a command that is one event is carried out by it
 pub single_events_are_calls : SingleEventsAreCalls
-single_events_are_calls shape session old new own command e told line own_is granted m events tells unshared = record {
+single_events_are_calls shape session old new own reads command e told line own_is granted m events tells unshared = record {
   stretch = event_stretch shape session old new e told m unshared;
   is_call = subst (λ o. IsCallBy shape false session o (refusal_of command o) call) own_is
       (subst (λ r. IsCallBy shape false session own r call) (sym granted) (go (is_memory told) refl tells));
@@ -52,7 +52,7 @@ single_events_are_calls shape session old new own command e told line own_is gra
     occurrence = occurrence_at session (parts_after shape m.before) e told
 
     call : Call
-    call = record { command = command; made = occurrence ∷ []; told = Some line }
+    call = record { command = command; made = occurrence ∷ []; told = Some line; reads = reads }
 
     go : (b : Bool) → is_memory told ≡ b → MatchBool b ((may_lack_memory command ≡ true) × (line ≡ said.Memory)) (line_of own command (told ∷ []) ≡ Some line)
         → IsWhole shape false session own call ⊎ IsPart shape session own call

@@ -24,25 +24,27 @@ use Rattle.event_spec.specs.declared.part.Part.TheVariants as part
 use Rattle.event_spec.specs.declared.reply.Reply.TheVariants as reply
 use Rattle.event_spec.specs.declared.reply.WriteFault.{WriteFault}
 use Rattle.event_spec.specs.declared.reply.WriteFault.TheVariants.{Exists, Full, Missing}
-use Rattle.event_spec.specs.Effects.{CoreEvent, after_change, after_insert, at_both, change_judged, changes_of, closed, effect, found, insert_judged, is_some_write, numbered}
+use Rattle.event_spec.specs.Effects.{CoreEvent, after_change, after_insert, after_judged, at_both, change_judged, changes_of, closed, effect, found, insert_judged, is_some_write, numbered, stale_in}
 use Rattle.event_spec.specs.Judged.{current_place, differences, fault_of, freezing_of, newer_by, next_place}
 use Rattle.event_spec.specs.Follows.{StandsBefore}
 use Rattle.event_spec.specs.Lawful.{Among, IsLawful, IsOwn, IsOwnKey, IsSession, IsThawed, Opened, OwnsAll, OwnsKey, session_of, transaction, writes_of}
 use Rattle.event_spec.specs.Parts.{Changes, Parts, Shape, BodyOf, ShardOf, names, nothing, each_changed, body_at, desk_at, head_at, part_named, places_at, shard_of, slot_at, slots_of}
-use Rattle.event_spec.specs.Replies.{CoreReply, reply_to, reply_to_write}
+use Rattle.event_spec.specs.Replies.{CoreReply, reply_to, reply_to_commit, reply_to_write}
 use Rattle.event_spec.specs.Sound.{Sound}
 use Rattle.core_laws.proofs.Following.Desks.{closed_own, none_not, opened_own}
 use Rattle.core_laws.specs.Following.Steps.{IsAdded}
 use Rattle.core_laws.proofs.Frames.Reached.{core_kept}
 use Rattle.core_laws.specs.Frames.Shards.{CoreHolds}
-use Rattle.isolation_spec.specs.Contents.{key_of, place_at, place_cmp, place_of}
+use Rattle.isolation_spec.specs.declared.read.Read.{Read}
+use Rattle.isolation_spec.specs.Reads.{ReadSet}
+use Rattle.isolation_spec.specs.Contents.{PlaceMap, key_of, place_at, place_cmp, place_of}
 use Rattle.isolation_spec.specs.declared.place.Place.{Place}
 use Rattle.isolation_spec.specs.Machine.{transaction_of}
 use Rattle.store_laws.proofs.Owned.{goes_on, owns_all}
 use Rattle.store_laws.specs.OwnLaws.{HasOpened, KeysAreOwned, OwnGoesOn, OwnStays, RestsAtFirst}
 use Rattle.core_laws.proofs.Parts.Leaving.{leaves}
 use Rattle.core_laws.proofs.Parts.Standing.{rests as at_rest}
-use Rattle.run_spec.specs.Opened.{own_behind, own_key, with_own}
+use Rattle.run_spec.specs.Opened.{committed_by, own_behind, own_key, with_own}
 use Rattle.core_laws.proofs.Slots.Kept.{writer_filled}
 use Rattle.core_laws.proofs.Sound.Written.{change_goes, judged_ok}
 use Rattle.txn_desk.specs.declared.Snapshot.{Snapshot}
@@ -107,6 +109,7 @@ of_session (reply.Refused fault) place own = refl
 of_session (reply.Rows rows) place own = refl
 of_session (reply.Shared rows) place own = refl
 of_session (reply.Committed number) place own = refl
+of_session (reply.Stale what number) place own = refl
 of_session reply.Aborted place own = refl
 of_session (reply.Oldest stamp) place own = refl
 of_session (reply.Turned turned) place own = refl
@@ -274,9 +277,24 @@ module _ (sh : Shape) (s : Parts) (holds : CoreHolds sh s) where
   none_is q e = cc
 
   -- A session has its pass at the desk too where a commit may have taken a number.
-  passes_on : (y : Bool) (q : ℕ) → HasPass (desk_at sh s) q → HasPass (cond y (numbered (desk_at sh s)) (desk_at sh s)) q
-  passes_on true q has = has
-  passes_on false q has = has
+  passes_on : (y : Bool) (writes : PlaceMap ℕ) (q : ℕ) → HasPass (desk_at sh s) q → HasPass (cond y (numbered writes (desk_at sh s)) (desk_at sh s)) q
+  passes_on true writes q has = has
+  passes_on false writes q has = has
+
+  -- a commit, which leaves all where it is refused
+  commits : (me : OwnTransaction) (reads : Option ReadSet) (q : ℕ) (own : Option OwnTransaction) → IsLawful sh (event.Commit me reads) s → me.session ≡ q → HasOpened sh s q own
+      → HasOpened sh (effect sh s (event.Commit me reads)) q (own_behind own (event.Commit me reads) (reply_to sh s (event.Commit me reads)))
+  commits me reads q own lawful same has = go (stale_in sh s me reads) refl
+    where
+      go : (o : Option (Read × ℕ)) → stale_in sh s me reads ≡ o
+          → HasOpened sh (effect sh s (event.Commit me reads)) q (own_behind own (event.Commit me reads) (reply_to sh s (event.Commit me reads)))
+      go (Some stale) is =
+          subst (λ o. HasOpened sh (each_changed (after_judged sh s me o) (names sh) s) q (committed_by own (reply_to_commit sh s me o))) (sym is) (kept_open q own has)
+      go None is =
+          subst (λ o. HasOpened sh (effect sh s (event.Commit me reads)) q (committed_by own (reply_to_commit sh s me o))) (sym is)
+          (subst (λ q. transaction sh (effect sh s (event.Commit me reads)) q ≡ None) same
+          (ended (event.Commit me reads) me.session (cond (is_some_write me.writes) (numbered me.writes (desk_at sh s)) (desk_at sh s)) lawful.0.0.0
+          (passes_on (is_some_write me.writes) me.writes me.session (has_pass me.session lawful.0.0)) (ap (λ o. (after_judged sh s me o).desk (desk_at sh s)) is)))
 
   -- Behind a lawful event of its own, case by case, a session has open what it tells.
   own_goes : (e : CoreEvent) (q : ℕ) (own : Option OwnTransaction) → IsLawful sh e s → session_of e ≡ Some q → HasOpened sh s q own
@@ -299,10 +317,7 @@ module _ (sh : Shape) (s : Parts) (holds : CoreHolds sh s) where
         changes (event.Delete me t key) me t key (λ old. change.Gone) o lawful.1.1 same owns (core_kept sh (event.Delete me t key) s holds lawful),
       ))
   own_goes (event.Read me t b) q own lawful is has = kept_open q own has
-  own_goes (event.Commit me) q own lawful is has =
-      let same = some_is me.session q is in
-      subst (λ q. transaction sh (effect sh s (event.Commit me)) q ≡ None) same
-      (ended (event.Commit me) me.session (cond (is_some_write me.writes) (numbered (desk_at sh s)) (desk_at sh s)) lawful.0.0.0 (passes_on (is_some_write me.writes) me.session (has_pass me.session lawful.0.0)) refl)
+  own_goes (event.Commit me reads) q own lawful is has = commits me reads q own lawful (some_is me.session q is) has
   own_goes (event.Abort me) q own lawful is has =
       let same = some_is me.session q is in
       subst (λ q. transaction sh (effect sh s (event.Abort me)) q ≡ None) same

@@ -11,15 +11,16 @@ use Rattle.event_spec.specs.declared.event.Event.TheVariants as event
 use Rattle.event_spec.specs.declared.own.OwnTransaction.{OwnTransaction}
 use Rattle.event_spec.specs.declared.reply.Reply.TheVariants as reply
 use Rattle.event_spec.specs.declared.reply.WriteFault.{WriteFault}
-use Rattle.event_spec.specs.Effects.{CoreEvent, effect}
+use Rattle.event_spec.specs.Effects.{CoreEvent, effect, stale_in}
 use Rattle.event_spec.specs.Parts.{Parts, Shape, names}
 use Rattle.event_spec.specs.Replay.{after, reply_after}
-use Rattle.event_spec.specs.Replies.{CoreReply, reply_to, reply_to_image, reply_to_seal, reply_to_write}
+use Rattle.event_spec.specs.Replies.{CoreReply, reply_to, reply_to_image, reply_to_seal, reply_to_write, reply_to_commit}
 use Rattle.run_spec.specs.Occurrences.{Logged}
 use Rattle.run_spec.specs.Opened.{own_behind}
 use Rattle.run_spec.specs.Told.{is_shared}
 use Rattle.store_laws.specs.Stretches.{reads_block}
 use Rattle.run_spec.specs.Traces.{MayLend}
+use Rattle.isolation_spec.specs.declared.read.Read.{Read}
 
 -- no reply to a write is an image
 no_write : (told : Result ℕ WriteFault) → is_shared (reply_to_write told) ≡ true → ⊥
@@ -37,6 +38,10 @@ no_image Loose body e = true_false (sym e)
 no_image (Sealed stamp) body e = true_false (sym e)
 no_image (Imaged stamp) body e = true_false (sym e)
 
+no_commit : (shape : Shape) (parts : Parts) (own : OwnTransaction) (stale : Option (Read × ℕ)) → is_shared (reply_to_commit shape parts own stale) ≡ true → ⊥
+no_commit shape parts own (Some stale) e = true_false (sym e)
+no_commit shape parts own None e = true_false (sym e)
+
 -- An event that tells an image is a read: it leaves the parts and what a session has open.
 pub record IsRead (shape : Shape) (parts : Parts) (e : CoreEvent) : Type 0 where
   pub leaves : effect shape parts e ≡ parts
@@ -49,7 +54,7 @@ images_are_read shape parts (event.Insert own table row) e = absurd (no_write _ 
 images_are_read shape parts (event.Update own table row) e = absurd (no_write _ e)
 images_are_read shape parts (event.Delete own table key) e = absurd (no_write _ e)
 images_are_read shape parts (event.Read own table block) e = record { leaves = all_stay (names shape) parts; keeps = λ own told. refl }
-images_are_read shape parts (event.Commit own) e = absurd (true_false (sym e))
+images_are_read shape parts (event.Commit own reads) e = absurd (no_commit shape parts own (stale_in shape parts own reads) e)
 images_are_read shape parts (event.Abort own) e = absurd (true_false (sym e))
 images_are_read shape parts event.Oldest e = absurd (true_false (sym e))
 images_are_read shape parts (event.Observe table block) e = absurd (true_false (sym e))
@@ -95,7 +100,7 @@ reads_alone shape parts (event.Insert own table row) other e = no_write _ e
 reads_alone shape parts (event.Update own table row) other e = no_write _ e
 reads_alone shape parts (event.Delete own table key) other e = no_write _ e
 reads_alone shape parts (event.Read own table block) other e = true_false other
-reads_alone shape parts (event.Commit own) other e = true_false (sym e)
+reads_alone shape parts (event.Commit own reads) other e = no_commit shape parts own (stale_in shape parts own reads) e
 reads_alone shape parts (event.Abort own) other e = true_false (sym e)
 reads_alone shape parts event.Oldest other e = true_false (sym e)
 reads_alone shape parts (event.Observe table block) other e = true_false (sym e)

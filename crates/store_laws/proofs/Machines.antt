@@ -7,7 +7,7 @@ use Rattle.core_laws.proofs.Logs.Logs.{made_keeps, made_step}
 use Rattle.core_laws.proofs.Logs.Opening.{opening_follows, sound}
 use Rattle.core_laws.specs.Events.Laws.{IsStep, command_in}
 use Rattle.core_laws.specs.Events.Named.{FollowsMachine}
-use Rattle.event_spec.specs.Lawful.{session_of}
+use Rattle.event_spec.specs.Lawful.{reads_handed, session_of}
 use Rattle.event_spec.specs.Parts.{Parts, Shape}
 use Rattle.event_spec.specs.Replay.{IsLawfulFrom, IsLawfulLog, after, opening, reply_after}
 use Rattle.event_spec.specs.Sound.{IsShape, Sound}
@@ -118,12 +118,12 @@ module _ (sh : Shape) where
   -- ---- the last event of a log
 
   pub last_step : (before : List Logged) (entry : Logged) → IsShape sh → IsLawfulLog sh (made_in (before ++ entry ∷ []))
-      → IsStep (command_in entry.made.event) (machine_after sh before) (reply_after sh (parts_after sh before) entry.made) (machine_after sh (before ++ entry ∷ []))
+      → IsStep (command_in entry.made.event) (reads_handed entry.made.event) (machine_after sh before) (reply_after sh (parts_after sh before) entry.made) (machine_after sh (before ++ entry ∷ []))
   last_step before entry shape lawful =
       let front = follows_whole before shape (lawful_front before (entry ∷ []) (opening sh) lawful) in
       let one = lawful_behind before (entry ∷ []) (opening sh) lawful in
       let step = made_step sh (parts_after sh before) entry.made (machine_after sh before) shape front.0 front.1 one.0 one.1 in
-      subst (IsStep (command_in entry.made.event) (machine_after sh before) (reply_after sh (parts_after sh before) entry.made))
+      subst (IsStep (command_in entry.made.event) (reads_handed entry.made.event) (machine_after sh before) (reply_after sh (parts_after sh before) entry.made))
       (moved_is (machine_after sh before) step.0 (occurrence_of sh (parts_after sh before) entry) step.1 ∙ sym (machine_on before (entry ∷ []))) step.1
 
 pub logs_follow : LogsFollowTheMachine

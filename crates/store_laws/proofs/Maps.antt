@@ -10,9 +10,9 @@ use Rattle.std.proofs.lemmas.Bool.Decides.{nat_tests, Decides-int_eq}
 use Rattle.std.proofs.lemmas.List.Elements.{All-cons, All-weaker}
 use Rattle.std.proofs.lemmas.List.Sorted.{length_permutation}
 use Rattle.block_spec.specs.Slots.{Row}
-use Rattle.event_spec.specs.Follows.{InOrder}
+use Rattle.isolation_spec.specs.Order.{InOrder}
 use Rattle.event_spec.specs.Lawful.{Among}
-use Rattle.core_laws.proofs.Following.Overlays.{at-insert, none_below, order-insert}
+use Rattle.isolation_laws.proofs.Overlays.{at-insert, none_below, order-insert}
 use Rattle.isolation_laws.proofs.Entries.{IsPermutation-insert_entry}
 use Rattle.isolation_laws.proofs.Rows.{is_place-of, place_cmp-total}
 use Rattle.isolation_spec.specs.Contents.{State, at_place, contents_of, is_place, key_of, place_at, place_cmp, place_of}

@@ -14,7 +14,7 @@ use Rattle.event_spec.specs.Follows.{is_current}
 use Rattle.event_spec.specs.Lawful.{Among, IsOwn, IsSession, OwnsAll, writes_of}
 use Rattle.event_spec.specs.Parts.{Parts, Shape, desk_at, places_at, slot_at}
 use Rattle.event_spec.specs.Sound.{Sound}
-use Rattle.core_laws.proofs.Following.Overlays.{at-insert}
+use Rattle.isolation_laws.proofs.Overlays.{at-insert}
 use Rattle.core_laws.specs.Following.Owned.{OwnSlot}
 use Rattle.core_laws.specs.Following.Steps.{IsAdded}
 use Rattle.isolation_laws.proofs.Rows.{place_cmp-total}

@@ -26,7 +26,7 @@ use Rattle.event_spec.specs.declared.own.OwnKey.{OwnKey}
 use Rattle.event_spec.specs.declared.part.Head.{Head}
 use Rattle.event_spec.specs.declared.reply.WriteFault.{WriteFault}
 use Rattle.event_spec.specs.declared.reply.WriteFault.TheVariants.{Exists, Full}
-use Rattle.event_spec.specs.Effects.{CoreEvent, after_change, after_insert, after_move, at_both, change_judged, changes_of, effect, found, has_key, held_pairs, holds, insert_judged, is_some_write, may_move, moved_on, moved_row, taken_by, with_empty}
+use Rattle.event_spec.specs.Effects.{CoreEvent, after_change, after_insert, after_move, at_both, change_judged, changes_of, effect, found, has_key, held_pairs, holds, insert_judged, is_some_write, may_move, moved_on, moved_row, taken_by, with_empty, after_judged, stale_in}
 use Rattle.event_spec.specs.Judged.{differences, fault_of, first_of_blocks, newer_by, next_place}
 use Rattle.event_spec.specs.Lawful.{Among, HasBlock, HasTable, IsLawful, IsThawed}
 use Rattle.event_spec.specs.Parts.{Changes, HeadOf, BodyOf, Parts, Shape, below, blocks_of, body_at, body_from, desk_at, head_at, head_from, is_head, names, nothing, places_at, slot_at, slots_of}
@@ -42,6 +42,8 @@ use Rattle.core_laws.proofs.Sound.Kept.{body_after, head_after}
 use Rattle.core_laws.proofs.Sound.Written.{change_goes, judged_ok}
 use Rattle.undo_chain.specs.declared.undo.Undo.{Undo}
 use Rattle.store_laws.specs.Room.{CountsRoom, FullIsFull, OpensEmpty, RoomIsCounted, inserted_by, used, used_in, writes_told}
+use Rattle.event_spec.specs.declared.own.OwnTransaction.{OwnTransaction}
+use Rattle.isolation_spec.specs.declared.read.Read.{Read}
 
 -- Numbers that are tested to be equal are.
 num : (a b : ℕ) → (a == b) ≡ true → a ≡ b
@@ -555,6 +557,15 @@ module _ (sh : Shape) (s : Parts) (shape : IsShape sh) (ok : Sound sh s) (t : �
       go true = refl
       go false = refl
 
+  -- A commit leaves the head and the slots in use, whether it is refused or not.
+  commit_head : (own : OwnTransaction) (stale : Option (Read × ℕ)) → (after_judged sh s own stale).head t (head_at sh s t) ≡ head_at sh s t
+  commit_head own (Some stale) = refl
+  commit_head own None = refl
+
+  judged_stays : (own : OwnTransaction) (stale : Option (Read × ℕ)) (b : ℕ) → HasBlock sh t b → Stays (body_at sh s t b) ((after_judged sh s own stale).body t b (body_at sh s t b))
+  judged_stays own (Some stale) b hb = stays (body_at sh s t b)
+  judged_stays own None b hb = commit_stays sh s shape ok t b hb (is_some_write own.writes) own.session ((desk_at sh s).newest + 1) ((desk_at sh s).commits + 1)
+
   -- A lawful event takes no more slots than its head counts, one for a granted insert.
   event_grows : (e : CoreEvent) → IsLawful sh e s → Grows (effect sh s e) (inserted_by t e (reply_to sh s e))
   event_grows (event.Begin q) lawful = calmly (event.Begin q) refl (λ b hb. stays (body_at sh s t b))
@@ -565,8 +576,7 @@ module _ (sh : Shape) (s : Parts) (shape : IsShape sh) (ok : Sound sh s) (t : �
   event_grows (event.Delete own u key) lawful = calmly (event.Delete own u key) (change_head own u (λ old. change.Gone) (change_judged sh s own u key))
       (λ b hb. change_stays sh s shape ok t b hb own u key (λ old. change.Gone) lawful.1.1)
   event_grows (event.Read own u c) lawful = calmly (event.Read own u c) refl (λ b hb. stays (body_at sh s t b))
-  event_grows (event.Commit own) lawful = calmly (event.Commit own) refl
-      (λ b hb. commit_stays sh s shape ok t b hb (is_some_write own.writes) own.session ((desk_at sh s).newest + 1) ((desk_at sh s).commits + 1))
+  event_grows (event.Commit own reads) lawful = calmly (event.Commit own reads) (commit_head own (stale_in sh s own reads)) (judged_stays own (stale_in sh s own reads))
   event_grows (event.Abort own) lawful = emptied (changes_of sh s (event.Abort own)) (λ block. is_empty (rolled_back_in own.session (body_at sh s t block))) true refl
       (λ b hb. abort_stays sh s shape ok t b hb own.session)
   event_grows event.Oldest lawful = calmly event.Oldest refl (λ b hb. stays (body_at sh s t b))

@@ -11,13 +11,13 @@ use Rattle.cell_model.specs.declared.table.TableDecl.{TableDecl}
 use Rattle.core_laws.proofs.Events.Lists.{below_member, flat_member, kept_member, member_below, member_flat, member_kept}
 use Rattle.core_laws.specs.Events.Named.{FollowsMachine}
 use Rattle.event_spec.specs.declared.own.OwnTransaction.{OwnTransaction}
-use Rattle.event_spec.specs.Follows.{InOrder}
+use Rattle.isolation_spec.specs.Order.{InOrder}
 use Rattle.event_spec.specs.Lawful.{Among, HasBlock, OwnsAll}
 use Rattle.event_spec.specs.Parts.{Parts, Shape, below, blocks_of, body_at}
 use Rattle.event_spec.specs.Replies.{row_read, rows_read}
 use Rattle.event_spec.specs.Sound.{IsShape, Sound}
-use Rattle.core_laws.proofs.Following.Machines.{state-order}
-use Rattle.core_laws.proofs.Following.Overlays.{at-laid_over}
+use Rattle.isolation_laws.proofs.States.{state-order}
+use Rattle.isolation_laws.proofs.Overlays.{at-laid_over}
 use Rattle.isolation_laws.proofs.Rows.{is_place-of}
 use Rattle.isolation_spec.specs.Contents.{at_place, is_place, key_of, place_at, place_of, state_at}
 use Rattle.isolation_spec.specs.Machine.{IsolationMachine, Transaction, seen_rows, transaction_of}

@@ -1,5 +1,5 @@
 -- How many stamps a log takes.
-use Rattle.std.proofs.Common.{◌≡◌, ℕ, ◌+◌, ◌≤◌, Bool, true, false, cond, List, [], ◌∷◌, is_none, length, refl, sym, ap, subst, arith}
+use Rattle.std.proofs.Common.{◌≡◌, ℕ, ◌+◌, ◌≤◌, Bool, true, false, cond, List, [], ◌∷◌, is_none, length, refl, sym, ap, subst, arith, Option, None, Some}
 use Rattle.std.specs.Prelude.{Result, Ok, Err, fold}
 use Rattle.std.proofs.lemmas.List.{length-map}
 use Rattle.block_spec.specs.Bodies.{seal_fault, sealed}
@@ -12,18 +12,20 @@ use Rattle.event_spec.specs.declared.event.Event.TheVariants as event
 use Rattle.event_spec.specs.declared.event.MovePair.{MovePair}
 use Rattle.event_spec.specs.declared.own.OwnKey.{OwnKey}
 use Rattle.event_spec.specs.declared.reply.WriteFault.{WriteFault}
-use Rattle.event_spec.specs.Effects.{CoreEvent, after_change, after_insert, after_move, at_both, change_judged, changes_of, closed, effect, held_pairs, insert_judged, is_some_write, numbered}
+use Rattle.event_spec.specs.Effects.{CoreEvent, after_change, after_insert, after_judged, after_move, at_both, change_judged, changes_of, closed, effect, held_pairs, insert_judged, is_some_write, numbered, stale_in}
 use Rattle.event_spec.specs.Judged.{differences}
 use Rattle.event_spec.specs.Parts.{Parts, Shape, nothing, body_at, desk_at, is_head}
 use Rattle.event_spec.specs.Replay.{IsLawfulFrom, Made, after, opening}
 use Rattle.core_laws.proofs.Frames.Reached.{core_kept, core_opens}
 use Rattle.core_laws.specs.Frames.Shards.{CoreHolds}
-use Rattle.isolation_spec.specs.Contents.{key_of}
+use Rattle.isolation_spec.specs.Contents.{key_of, PlaceMap}
 use Rattle.core_laws.proofs.Logs.Opening.{desk}
 use Rattle.run_spec.specs.Occurrences.{Logged}
 use Rattle.store_laws.specs.Laws.{StampsAreFew}
 use Rattle.store_laws.specs.Logs.{made_in}
 use Rattle.txn_desk.specs.Desk.{DeskState}
+use Rattle.event_spec.specs.declared.own.OwnTransaction.{OwnTransaction}
+use Rattle.isolation_spec.specs.declared.read.Read.{Read}
 
 -- the newest stamp is at most one above another's
 abbrev IsOneMore : DeskState → DeskState → Type 0
@@ -58,9 +60,14 @@ module _ (sh : Shape) (s : Parts) where
   move_more u (first ∷ rest) x = omega arith
 
   -- A commit, of writes or of none, takes one stamp at most.
-  commit_more : (wrote : Bool) (q : ℕ) (x : DeskState) → IsOneMore x (closed q (cond wrote (numbered x) x))
-  commit_more true q x = omega arith
-  commit_more false q x = omega arith
+  commit_more : (wrote : Bool) (writes : PlaceMap ℕ) (q : ℕ) (x : DeskState) → IsOneMore x (closed q (cond wrote (numbered writes x) x))
+  commit_more true writes q x = omega arith
+  commit_more false writes q x = omega arith
+
+  -- One that is refused takes none.
+  judged_more : (own : OwnTransaction) (stale : Option (Read × ℕ)) (x : DeskState) → IsOneMore x ((after_judged sh s own stale).desk x)
+  judged_more own (Some stale) x = omega arith
+  judged_more own None x = commit_more (is_some_write own.writes) own.writes own.session x
 
   -- Any event takes one stamp at most.
   event_more : (e : CoreEvent) → IsOneMore (desk_at sh s) ((changes_of sh s e).desk (desk_at sh s))
@@ -70,7 +77,7 @@ module _ (sh : Shape) (s : Parts) where
   event_more (event.Update own u row) = same_more _ _ (change_desk own u (λ old. change.Patch (differences 0 old row)) (change_judged sh s own u (key_of row)) (desk_at sh s))
   event_more (event.Delete own u key) = same_more _ _ (change_desk own u (λ old. change.Gone) (change_judged sh s own u key) (desk_at sh s))
   event_more (event.Read own u c) = omega arith
-  event_more (event.Commit own) = commit_more (is_some_write own.writes) own.session (desk_at sh s)
+  event_more (event.Commit own reads) = judged_more own (stale_in sh s own reads) (desk_at sh s)
   event_more (event.Abort own) = omega arith
   event_more event.Oldest = omega arith
   event_more (event.Observe u c) = omega arith

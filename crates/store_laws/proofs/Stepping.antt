@@ -2,7 +2,7 @@
 -- each command makes of its own session's.
 use Rattle.std.proofs.Common.{◌≡◌, ◌≢◌, ◌⊎◌, ℕ, ◌+◌, ◌≤◌, Bool, true, false, cond, List, [], ◌∷◌, ◌++◌, Option, None, Some, is_none, is_some, length, option_map, refl, sym, ap, subst, ◌∙◌, append-nil, append_assoc, arith}
 use mathlib.Core.Logic.{inl, inr}
-use Rattle.std.specs.Prelude.{IsSomeAnd}
+use Rattle.std.specs.Prelude.{IsSomeAnd, option_and_then}
 use Rattle.std.specs.BTreeMap.{insert_entry}
 use Rattle.std.specs.Option.{option_map_or, option_or}
 use Rattle.std.proofs.lemmas.List.{length_push, take-append-le}
@@ -14,7 +14,7 @@ use Rattle.event_spec.specs.declared.reply.Reply.TheVariants as reply
 use Rattle.event_spec.specs.declared.reply.WriteFault.{WriteFault}
 use Rattle.event_spec.specs.declared.reply.WriteFault.TheVariants as fault
 use Rattle.event_spec.specs.Effects.{CoreEvent}
-use Rattle.event_spec.specs.Lawful.{session_of}
+use Rattle.event_spec.specs.Lawful.{reads_handed, session_of}
 use Rattle.isolation_spec.specs.Contents.{History, WriteSet, at_place, laid_over, place_at, place_cmp, place_of, state_at}
 use Rattle.isolation_spec.specs.declared.command.Act.{Act}
 use Rattle.isolation_spec.specs.declared.command.Act.TheVariants as act
@@ -22,13 +22,16 @@ use Rattle.isolation_spec.specs.declared.command.Answer.{Answer}
 use Rattle.isolation_spec.specs.declared.command.Answer.TheVariants as answer
 use Rattle.isolation_spec.specs.declared.command.Command.{Command}
 use Rattle.isolation_spec.specs.declared.place.Place.{Place}
+use Rattle.isolation_spec.specs.declared.read.Read.{Read}
+use Rattle.isolation_spec.specs.Checked.{stale_of, stale_read, step_with}
+use Rattle.isolation_spec.specs.Reads.{ReadSet}
 use Rattle.isolation_spec.specs.Machine.{IsolationMachine, Transaction, commit, conflict_of, later_writers, refusal_of_change, refusal_of_insert, rival_of, seen_rows, step, step_of, step_within, step_without, transaction_of, with_own, without, write}
 use Rattle.isolation_spec.specs.Store.{Allows, Outcome}
 use Rattle.isolation_spec.specs.Store as store
 use Rattle.cell_model.specs.declared.cell.Cell.{Cell}
 use Rattle.std.specs.List.{last_or}
 use Rattle.run_spec.specs.Occurrences.{Occurrence}
-use Rattle.store_laws.specs.Machines.{AddsCommit, HasMore, HasOpenIn, left_by, moved_on, rows_seen}
+use Rattle.store_laws.specs.Machines.{AddsCommit, HasMore, HasOpenIn, left_by, moved_on, rows_seen, stale_since}
 
 -- ---- what a step leaves of others
 
@@ -58,9 +61,11 @@ commit_leaves q m t [] ne = record { same = of-without q t.session m.open_transa
 commit_leaves q m t (first ∷ rest) ne = record { same = of-without q t.session m.open_transactions ne; more = (t.own ∷ [], refl) }
 
 within_leaves : (q : ℕ) (m : IsolationMachine) (t : Transaction) (what : Act) → q ≢ t.session → Leaves q m (step_within m t what).1
-within_leaves q m t act.Begin ne = left_alone q m
+within_leaves q m t (act.Begin checked) ne = left_alone q m
 within_leaves q m t (act.Get table key) ne = left_alone q m
 within_leaves q m t (act.Scan table) ne = left_alone q m
+within_leaves q m t (act.Range table low high) ne = left_alone q m
+within_leaves q m t (act.Total table column low high) ne = left_alone q m
 within_leaves q m t (act.Insert table row) ne = write_leaves q m t (place_of table row) (Some row) (refusal_of_insert m t (place_of table row)) ne
 within_leaves q m t (act.Update table row) ne = write_leaves q m t (place_of table row) (Some row) (refusal_of_change m t (place_of table row)) ne
 within_leaves q m t (act.Delete table key) ne = write_leaves q m t (place_at table key) None (refusal_of_change m t (place_at table key)) ne
@@ -68,12 +73,14 @@ within_leaves q m t act.Commit ne = commit_leaves q m t t.own ne
 within_leaves q m t act.Abort ne = record { same = of-without q t.session m.open_transactions ne; more = ([], sym (append-nil m.history)) }
 
 without_leaves : (q : ℕ) (m : IsolationMachine) (r : ℕ) (what : Act) → r ≢ q → Leaves q m (step_without m r what).1
-without_leaves q m r act.Begin ne = record {
+without_leaves q m r (act.Begin checked) ne = record {
   same = of-append-other q m.open_transactions (record { session = r; snapshot = length m.history; own = [] }) ne;
   more = ([], sym (append-nil m.history));
 }
 without_leaves q m r (act.Get table key) ne = left_alone q m
 without_leaves q m r (act.Scan table) ne = left_alone q m
+without_leaves q m r (act.Range table low high) ne = left_alone q m
+without_leaves q m r (act.Total table column low high) ne = left_alone q m
 without_leaves q m r (act.Insert table row) ne = left_alone q m
 without_leaves q m r (act.Update table row) ne = left_alone q m
 without_leaves q m r (act.Delete table key) ne = left_alone q m
@@ -87,6 +94,26 @@ step_leaves q m command ne = go (transaction_of command.session m) refl
     go None is = without_leaves q m command.session command.act ne
     go (Some t) is = within_leaves q m t command.act (λ e. ne (sym (found_session command.session m.open_transactions t is) ∙ sym e))
 
+-- a commit that is refused leaves all, and what isn't is a step of the machine
+abbrev step_unless : IsolationMachine → Command → Option (Read × ℕ) → Answer × IsolationMachine
+step_unless m command (Some stale) = (answer.Stale stale.0 stale.1, m)
+step_unless m command None = step m command
+
+step_is : (m : IsolationMachine) (reads : Option ReadSet) (command : Command) → step_with m reads command ≡ step_unless m command (stale_of m reads command.session command.act)
+step_is m reads command = go (stale_of m reads command.session command.act)
+  where
+    go : (o : Option (Read × ℕ)) → (elim o [ Some stale ↦ (answer.Stale stale.0 stale.1, m) | None ↦ step m command ]) ≡ step_unless m command o
+    go (Some stale) = refl
+    go None = refl
+
+step_with_leaves : (q : ℕ) (m : IsolationMachine) (reads : Option ReadSet) (command : Command) → command.session ≢ q → Leaves q m (step_with m reads command).1
+step_with_leaves q m reads command ne =
+    subst (λ (p : Answer × IsolationMachine). Leaves q m p.1) (sym (step_is m reads command)) (go (stale_of m reads command.session command.act))
+  where
+    go : (o : Option (Read × ℕ)) → Leaves q m (step_unless m command o).1
+    go (Some stale) = left_alone q m
+    go None = step_leaves q m command ne
+
 -- An event that is a command is one of its own session.
 asked_by : (e : CoreEvent) → (option_map (λ (c : Command). c.session) (command_in e) ≡ session_of e) ⊎ (command_in e ≡ None)
 asked_by (event.Begin session) = inl refl
@@ -95,7 +122,7 @@ asked_by (event.Insert own table row) = inl refl
 asked_by (event.Update own table row) = inl refl
 asked_by (event.Delete own table key) = inl refl
 asked_by (event.Read own table block) = inr refl
-asked_by (event.Commit own) = inl refl
+asked_by (event.Commit own reads) = inl refl
 asked_by (event.Abort own) = inl refl
 asked_by event.Oldest = inl refl
 asked_by (event.Observe table block) = inl refl
@@ -107,25 +134,25 @@ asked_by (event.Image table block image) = inl refl
 asked_by (event.Thaw table block) = inl refl
 
 -- what the machine is behind an event, by its command and by its outcome
-abbrev moved_by : IsolationMachine → Option Command → Option Outcome → IsolationMachine
-moved_by m command outcome = option_map_or (λ c. option_map_or (left_by m c) outcome m) command m
+abbrev moved_by : IsolationMachine → Option ReadSet → Option Command → Option Outcome → IsolationMachine
+moved_by m reads command outcome = option_map_or (λ c. option_map_or (left_by m reads c) outcome m) command m
 
 -- an event that is no command leaves all
 pub quiet_leaves : (q : ℕ) (m : IsolationMachine) (o : Occurrence) → command_in o.event ≡ None → Leaves q m (moved_on m o)
-quiet_leaves q m o none' = subst (λ c. Leaves q m (moved_by m c (outcome_of o.reply))) (sym none') (left_alone q m)
+quiet_leaves q m o none' = subst (λ c. Leaves q m (moved_by m (reads_handed o.event) c (outcome_of o.reply))) (sym none') (left_alone q m)
 
 -- an event of another session leaves a session's transaction
 pub other_leaves : (q : ℕ) (m : IsolationMachine) (o : Occurrence) → session_of o.event ≢ Some q → Leaves q m (moved_on m o)
 other_leaves q m o ne = go (asked_by o.event)
   where
-    outcome : (c : Command) → c.session ≢ q → (r : Option Outcome) → Leaves q m (option_map_or (left_by m c) r m)
+    outcome : (c : Command) → c.session ≢ q → (r : Option Outcome) → Leaves q m (option_map_or (left_by m (reads_handed o.event) c) r m)
     outcome c apart None = left_alone q m
-    outcome c apart (Some (store.Answered said)) = step_leaves q m c apart
+    outcome c apart (Some (store.Answered said)) = step_with_leaves q m (reads_handed o.event) c apart
     outcome c apart (Some store.Freezing) = left_alone q m
     outcome c apart (Some store.Full) = left_alone q m
     outcome c apart (Some store.Memory) = left_alone q m
 
-    command : (c : Option Command) → option_map (λ (c : Command). c.session) c ≡ session_of o.event → Leaves q m (moved_by m c (outcome_of o.reply))
+    command : (c : Option Command) → option_map (λ (c : Command). c.session) c ≡ session_of o.event → Leaves q m (moved_by m (reads_handed o.event) c (outcome_of o.reply))
     command None is = left_alone q m
     command (Some c) is = outcome c (λ e. ne (sym is ∙ ap Some e)) (outcome_of o.reply)
 
@@ -149,9 +176,11 @@ commits_stay m o = command (command_in o.event)
     wrote t place change None = none_more
 
     within : (t : Transaction) (what : Act) → HasMore m.history (step_within m t what).1.history
-    within t act.Begin = none_more
+    within t (act.Begin checked) = none_more
     within t (act.Get table key) = none_more
     within t (act.Scan table) = none_more
+    within t (act.Range table low high) = none_more
+    within t (act.Total table column low high) = none_more
     within t (act.Insert table row) = wrote t (place_of table row) (Some row) (refusal_of_insert m t (place_of table row))
     within t (act.Update table row) = wrote t (place_of table row) (Some row) (refusal_of_change m t (place_of table row))
     within t (act.Delete table key) = wrote t (place_at table key) None (refusal_of_change m t (place_at table key))
@@ -159,9 +188,11 @@ commits_stay m o = command (command_in o.event)
     within t act.Abort = none_more
 
     alone : (r : ℕ) (what : Act) → HasMore m.history (step_without m r what).1.history
-    alone r act.Begin = none_more
+    alone r (act.Begin checked) = none_more
     alone r (act.Get table key) = none_more
     alone r (act.Scan table) = none_more
+    alone r (act.Range table low high) = none_more
+    alone r (act.Total table column low high) = none_more
     alone r (act.Insert table row) = none_more
     alone r (act.Update table row) = none_more
     alone r (act.Delete table key) = none_more
@@ -172,29 +203,35 @@ commits_stay m o = command (command_in o.event)
     stepped c None = alone c.session c.act
     stepped c (Some t) = within t c.act
 
-    outcome : (c : Command) (r : Option Outcome) → HasMore m.history (option_map_or (left_by m c) r m).history
+    answered_more : (c : Command) (s : Option (Read × ℕ)) → HasMore m.history (step_unless m c s).1.history
+    answered_more c (Some stale) = none_more
+    answered_more c None = stepped c (transaction_of c.session m)
+
+    outcome : (c : Command) (r : Option Outcome) → HasMore m.history (option_map_or (left_by m (reads_handed o.event) c) r m).history
     outcome c None = none_more
-    outcome c (Some (store.Answered said)) = stepped c (transaction_of c.session m)
+    outcome c (Some (store.Answered said)) =
+        subst (λ (p : Answer × IsolationMachine). HasMore m.history p.1.history) (sym (step_is m (reads_handed o.event) c))
+        (answered_more c (stale_of m (reads_handed o.event) c.session c.act))
     outcome c (Some store.Freezing) = none_more
     outcome c (Some store.Full) = none_more
     outcome c (Some store.Memory) = none_more
 
-    command : (c : Option Command) → HasMore m.history (moved_by m c (outcome_of o.reply)).history
+    command : (c : Option Command) → HasMore m.history (moved_by m (reads_handed o.event) c (outcome_of o.reply)).history
     command None = none_more
     command (Some c) = outcome c (outcome_of o.reply)
 
 -- what the machine may become behind an event is what it becomes
-pub moved_is : (m next : IsolationMachine) (o : Occurrence) → IsStep (command_in o.event) m o.reply next → next ≡ moved_on m o
+pub moved_is : (m next : IsolationMachine) (o : Occurrence) → IsStep (command_in o.event) (reads_handed o.event) m o.reply next → next ≡ moved_on m o
 moved_is m next o h = command (command_in o.event) h
   where
-    outcome : (c : Command) (r : Option Outcome) → IsSomeAnd r (λ outcome. Allows m c outcome next) → next ≡ option_map_or (left_by m c) r m
+    outcome : (c : Command) (r : Option Outcome) → IsSomeAnd r (λ outcome. Allows m (reads_handed o.event) c outcome next) → next ≡ option_map_or (left_by m (reads_handed o.event) c) r m
     outcome c None h = absurd h
     outcome c (Some (store.Answered said)) h = sym (ap (λ (p : Answer × IsolationMachine). p.1) h)
     outcome c (Some store.Freezing) h = h.2
     outcome c (Some store.Full) h = h.2
     outcome c (Some store.Memory) h = h.2
 
-    command : (c : Option Command) → IsStep c m o.reply next → next ≡ moved_by m c (outcome_of o.reply)
+    command : (c : Option Command) → IsStep c (reads_handed o.event) m o.reply next → next ≡ moved_by m (reads_handed o.event) c (outcome_of o.reply)
     command None h = h
     command (Some c) h = outcome c (outcome_of o.reply) h
 
@@ -220,9 +257,9 @@ open_on q m next commits own has left = record {
 }
 
 -- a begin opens a transaction that sees all commits
-pub begun : (q number : ℕ) (m next : IsolationMachine) → step m (asked q act.Begin) ≡ (answer.At number, next)
+pub begun : (checked : Bool) (q number : ℕ) (m next : IsolationMachine) → step m (asked q (act.Begin checked)) ≡ (answer.At number, next)
     → HasOpenIn q next m.history [] × (number ≡ length m.history) × (next.history ≡ m.history)
-begun q number m next h = go (transaction_of q m) refl h
+begun checked q number m next h = go (transaction_of q m) refl h
   where
     same_number : (a b : ℕ) → answer.At a ≡ answer.At b → b ≡ a
     same_number a b e = cc
@@ -236,7 +273,7 @@ begun q number m next h = go (transaction_of q m) refl h
     later : IsolationMachine
     later = record m { open_transactions = m.open_transactions ++ new ∷ [] }
 
-    go : (o : Option Transaction) → transaction_of q m ≡ o → step_of m (asked q act.Begin) o ≡ (answer.At number, next)
+    go : (o : Option Transaction) → transaction_of q m ≡ o → step_of m (asked q (act.Begin checked)) o ≡ (answer.At number, next)
         → HasOpenIn q next m.history [] × (number ≡ length m.history) × (next.history ≡ m.history)
     go (Some t) is h = absurd (never (said_is answer.InTransaction (answer.At number) m next h))
     go None is h =
@@ -340,25 +377,73 @@ module _ (q : ℕ) (m next : IsolationMachine) (commits : History) (own : WriteS
   -- a write that the store refuses, or the machine, leaves the machine
   abbrev IsWrite : Act → Type 0
   IsWrite what = (place : Place) × (change : Option (List Cell)) × (refusal : Option Answer) × (step_within m opened what ≡ write m opened place change refusal)
+      × (step_with m None (asked q what) ≡ step m (asked q what))
 
-  fault_leaves : (what : Act) → IsWrite what → (why : WriteFault) → IsTold m (asked q what) (reply.Refused why) next → m ≡ next
-  fault_leaves what w (fault.ConflictSession session) h = refused w.0 w.1 w.2 (answer.ConflictSession session) (λ e. cc) (sym w.3 ∙ stepped what (answer.ConflictSession session) h)
-  fault_leaves what w (fault.ConflictCommit number) h = refused w.0 w.1 w.2 (answer.ConflictCommit number) (λ e. cc) (sym w.3 ∙ stepped what (answer.ConflictCommit number) h)
-  fault_leaves what w fault.Exists h = refused w.0 w.1 w.2 answer.Exists (λ e. cc) (sym w.3 ∙ stepped what answer.Exists h)
-  fault_leaves what w fault.Missing h = refused w.0 w.1 w.2 answer.Missing (λ e. cc) (sym w.3 ∙ stepped what answer.Missing h)
+  fault_leaves : (what : Act) → IsWrite what → (why : WriteFault) → IsTold m None (asked q what) (reply.Refused why) next → m ≡ next
+  fault_leaves what w (fault.ConflictSession session) h = refused w.0 w.1 w.2 (answer.ConflictSession session) (λ e. cc) (sym w.3 ∙ stepped what (answer.ConflictSession session) (sym w.4 ∙ h))
+  fault_leaves what w (fault.ConflictCommit number) h = refused w.0 w.1 w.2 (answer.ConflictCommit number) (λ e. cc) (sym w.3 ∙ stepped what (answer.ConflictCommit number) (sym w.4 ∙ h))
+  fault_leaves what w fault.Exists h = refused w.0 w.1 w.2 answer.Exists (λ e. cc) (sym w.3 ∙ stepped what answer.Exists (sym w.4 ∙ h))
+  fault_leaves what w fault.Missing h = refused w.0 w.1 w.2 answer.Missing (λ e. cc) (sym w.3 ∙ stepped what answer.Missing (sym w.4 ∙ h))
   fault_leaves what w (fault.Freezing block stamp) h = sym h.2
   fault_leaves what w (fault.Full inserts) h = sym h.2
 
-  pub insert_left : (table : ℕ) (row : Row) (why : WriteFault) → IsTold m (asked q (act.Insert table row)) (reply.Refused why) next → m ≡ next
-  insert_left table row = fault_leaves (act.Insert table row) (place_of table row, Some row, refusal_of_insert m opened (place_of table row), refl)
+  pub insert_left : (table : ℕ) (row : Row) (why : WriteFault) → IsTold m None (asked q (act.Insert table row)) (reply.Refused why) next → m ≡ next
+  insert_left table row = fault_leaves (act.Insert table row) (place_of table row, Some row, refusal_of_insert m opened (place_of table row), refl, refl)
 
-  pub update_left : (table : ℕ) (row : Row) (why : WriteFault) → IsTold m (asked q (act.Update table row)) (reply.Refused why) next → m ≡ next
-  update_left table row = fault_leaves (act.Update table row) (place_of table row, Some row, refusal_of_change m opened (place_of table row), refl)
+  pub update_left : (table : ℕ) (row : Row) (why : WriteFault) → IsTold m None (asked q (act.Update table row)) (reply.Refused why) next → m ≡ next
+  update_left table row = fault_leaves (act.Update table row) (place_of table row, Some row, refusal_of_change m opened (place_of table row), refl, refl)
 
-  pub delete_left : (table : ℕ) (key : Rattle.std.proofs.Common.ℤ) (why : WriteFault) → IsTold m (asked q (act.Delete table key)) (reply.Refused why) next → m ≡ next
-  delete_left table key = fault_leaves (act.Delete table key) (place_at table key, None, refusal_of_change m opened (place_at table key), refl)
+  pub delete_left : (table : ℕ) (key : Rattle.std.proofs.Common.ℤ) (why : WriteFault) → IsTold m None (asked q (act.Delete table key)) (reply.Refused why) next → m ≡ next
+  delete_left table key = fault_leaves (act.Delete table key) (place_at table key, None, refusal_of_change m opened (place_at table key), refl, refl)
 
   -- ---- ends
+
+  -- why its commit is refused
+  stale_is : (reads : Option ReadSet) → stale_of m reads q act.Commit ≡ stale_since m.history commits own reads
+  stale_is reads = ap (λ (o : Option Transaction). option_and_then (λ t. stale_read m t t.own reads) o) has.opened ∙ go own
+    where
+      go : (w : WriteSet) → stale_read m opened w reads ≡ stale_since m.history commits w reads
+      go [] = refl
+      go (first ∷ rest) = refl
+
+  -- a commit by what it hands in, as the machine answers it
+  judged : (reads : Option ReadSet) (said : Answer) → step_with m reads (asked q act.Commit) ≡ (said, next)
+      → step_unless m (asked q act.Commit) (stale_since m.history commits own reads) ≡ (said, next)
+  judged reads said h = ap (step_unless m (asked q act.Commit)) (sym (stale_is reads)) ∙ sym (step_is m reads (asked q act.Commit)) ∙ h
+
+  -- One that is refused leaves all, and is told why.
+  pub stays_stale : (reads : Option ReadSet) (what : Read) (number : ℕ) → step_with m reads (asked q act.Commit) ≡ (answer.Stale what number, next)
+      → (stale_since m.history commits own reads ≡ Some (what, number)) × (m ≡ next)
+  stays_stale reads what number h = go (stale_since m.history commits own reads) refl (judged reads (answer.Stale what number) h)
+    where
+      same : (a : Read) (n : ℕ) → answer.Stale a n ≡ answer.Stale what number → (a ≡ what) × (n ≡ number)
+      same a n e = (cc, cc)
+
+      never : (w : WriteSet) → (commit m (record { session = q; snapshot = length commits; own = w }) w).0 ≡ answer.Stale what number → ⊥
+      never [] e = cc
+      never (first ∷ rest) e = cc
+
+      go : (o : Option (Read × ℕ)) → stale_since m.history commits own reads ≡ o → step_unless m (asked q act.Commit) o ≡ (answer.Stale what number, next)
+          → (stale_since m.history commits own reads ≡ Some (what, number)) × (m ≡ next)
+      go (Some stale) is h =
+          let e = same stale.0 stale.1 (said_is (answer.Stale stale.0 stale.1) (answer.Stale what number) m next h) in (
+            is ∙ ap (λ (r : Read). Some (r, stale.1)) e.0 ∙ ap (λ n. Some (what, n)) e.1,
+            next_is (answer.Stale stale.0 stale.1) (answer.Stale what number) m next h,
+          )
+      go None is h = absurd (never own (ap (λ (p : Answer × IsolationMachine). p.0) (stepped act.Commit (answer.Stale what number) h)))
+
+  -- a commit that stands was not refused
+  pub stands : (reads : Option ReadSet) (number : Option ℕ) → step_with m reads (asked q act.Commit) ≡ (answer.Committed number, next)
+      → (stale_since m.history commits own reads ≡ None) × (step m (asked q act.Commit) ≡ (answer.Committed number, next))
+  stands reads number h = go (stale_since m.history commits own reads) refl (judged reads (answer.Committed number) h)
+    where
+      never : (a : Read) (n : ℕ) → answer.Stale a n ≡ answer.Committed number → ⊥
+      never a n e = cc
+
+      go : (o : Option (Read × ℕ)) → stale_since m.history commits own reads ≡ o → step_unless m (asked q act.Commit) o ≡ (answer.Committed number, next)
+          → (stale_since m.history commits own reads ≡ None) × (step m (asked q act.Commit) ≡ (answer.Committed number, next))
+      go (Some stale) is h = absurd (never stale.0 stale.1 (said_is (answer.Stale stale.0 stale.1) (answer.Committed number) m next h))
+      go None is h = (is, h)
 
   -- a commit adds what was written to the commits
   pub committed : (number : Option ℕ) → step m (asked q act.Commit) ≡ (answer.Committed number, next) → AddsCommit m.history next.history own number

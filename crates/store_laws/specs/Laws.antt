@@ -10,6 +10,7 @@ use Rattle.event_spec.specs.Parts.{CorePart, Parts, Shape, desk_at}
 use Rattle.event_spec.specs.Replay.{IsLawfulLog}
 use Rattle.event_spec.specs.Replies.{CoreReply, reply_to}
 use Rattle.event_spec.specs.Sound.{IsShape}
+use Rattle.isolation_spec.specs.Reads.{ReadSet}
 use Rattle.hall_rule.specs.EventLog.{LawfulFrom, replay}
 use Rattle.hall_rule.specs.Views.{entry_of as hall_entry}
 use Rattle.hall_rule.specs.declared.view.Entry.{Entry}
@@ -104,12 +105,12 @@ TellsLine own command told line = MatchBool
 -- A command that is one event, which tells no image, is carried out by it.
 abbrev pub SingleEventsAreCalls : Type 0
 SingleEventsAreCalls = (shape : Shape) (session : ℕ) (old new : List Logged)
-    (own : Option OwnTransaction) (command : Command) (event : CoreEvent) (told : CoreReply)
-    (line : Said)
+    (own : Option OwnTransaction) (reads : Option ReadSet) (command : Command) (event : CoreEvent)
+    (told : CoreReply) (line : Said)
     → own ≡ own_after (own_in shape session old)
     → refusal_of command own ≡ None
     → (made : MakesOne shape session old new event told)
-    → events_of shape own session command
+    → events_of shape own reads session command
     (occurrence_at session (parts_after shape made.before) event told ∷ [])
     ≡ event ∷ []
     → TellsLine own command told line
@@ -118,4 +119,5 @@ SingleEventsAreCalls = (shape : Shape) (session : ℕ) (old new : List Logged)
       command = command;
       made = occurrence_at session (parts_after shape made.before) event told ∷ [];
       told = Some line;
+      reads = reads;
     })

@@ -1,16 +1,21 @@
 -- The snapshot-isolation machine along a store's log: which write sets were committed, and what a
 -- session has open.
 use Rattle.std.specs.Prelude.{◌≡◌, ℕ, List, [], ◌∷◌, ◌++◌, Option, None, Some, fold, length}
+use Rattle.std.specs.Prelude.{option_and_then}
 use Rattle.std.specs.Option.{option_map_or}
 use Rattle.core_laws.specs.Events.Laws.{command_in, outcome_of}
 use Rattle.core_laws.specs.Events.Named.{FollowsMachine}
+use Rattle.event_spec.specs.Lawful.{reads_handed}
 use Rattle.event_spec.specs.Parts.{Shape}
 use Rattle.event_spec.specs.Replay.{IsLawfulLog}
 use Rattle.event_spec.specs.Sound.{IsShape}
 use Rattle.isolation_spec.specs.Contents.{History, State, WriteSet, laid_over, state_at}
 use Rattle.isolation_spec.specs.declared.command.Command.{Command}
-use Rattle.isolation_spec.specs.Machine.{IsolationMachine, step, transaction_of}
+use Rattle.isolation_spec.specs.declared.read.Read.{Read}
+use Rattle.isolation_spec.specs.Checked.{step_with}
+use Rattle.isolation_spec.specs.Machine.{IsolationMachine, transaction_of}
 use Rattle.isolation_spec.specs.Machine as machine
+use Rattle.isolation_spec.specs.Reads.{ReadSet, first_stale, last_meeting, reads_in}
 use Rattle.isolation_spec.specs.Store.{Outcome}
 use Rattle.isolation_spec.specs.Store as store
 use Rattle.run_spec.specs.Handed.{GoesOn}
@@ -18,18 +23,22 @@ use Rattle.run_spec.specs.Occurrences.{Logged, Occurrence, occurrences_in}
 use Rattle.store_laws.specs.Logs.{made_in}
 use Rattle.store_laws.specs.Own.{parts_after}
 
--- A command that the machine answers moves it on; one that the store refuses leaves it.
-abbrev pub left_by : IsolationMachine → Command → Outcome → IsolationMachine
-left_by before command (store.Answered said) = (step before command).1
-left_by before command store.Freezing = before
-left_by before command store.Full = before
-left_by before command store.Memory = before
+-- A command that the machine answers moves it on, a commit by the reads that it hands in; one that
+-- the store refuses leaves it.
+abbrev pub left_by : IsolationMachine → Option ReadSet → Command → Outcome → IsolationMachine
+left_by before reads command (store.Answered said) = (step_with before reads command).1
+left_by before reads command store.Freezing = before
+left_by before reads command store.Full = before
+left_by before reads command store.Memory = before
 
 -- The machine behind one more event. An event that is no command leaves it.
 abbrev pub moved_on : IsolationMachine → Occurrence → IsolationMachine
 moved_on before occurrence =
     option_map_or
-    (λ command. option_map_or (left_by before command) (outcome_of occurrence.reply) before)
+    (λ command. option_map_or
+    (left_by before (reads_handed occurrence.event) command)
+    (outcome_of occurrence.reply)
+    before)
     (command_in occurrence.event)
     before
 
@@ -63,6 +72,14 @@ abbrev pub AddsCommit : History → History → WriteSet → Option ℕ → Type
 AddsCommit before later [] number = (later ≡ before) × (number ≡ None)
 AddsCommit before later (first ∷ rest) number =
     (later ≡ before ++ (first ∷ rest) ∷ []) × (number ≡ Some (length later))
+
+-- Of a transaction's reads the first into which later commits wrote than those that it sees, with
+-- the number of the last of them: none where it wrote nothing, and where it is plain.
+abbrev pub stale_since : History → History → WriteSet → Option ReadSet → Option (Read × ℕ)
+stale_since later commits [] reads = None
+stale_since later commits (first ∷ rest) reads = option_and_then
+    (λ set. first_stale (last_meeting later (length commits)) (reads_in set))
+    reads
 
 -- ---- laws
 

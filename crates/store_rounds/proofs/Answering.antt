@@ -26,18 +26,21 @@ use Rattle.run_spec.specs.Handed.{own_in}
 use Rattle.run_spec.specs.Occurrences.{Occurrence, events_in}
 use Rattle.run_spec.specs.Opened.{own_after}
 use Rattle.run_spec.specs.Told.{is_shared, refusal_of}
-use Rattle.shared_store.specs.Store.{Answers, MakesAtMost, StoreView, own_of, seen, shape_in, taken_by}
+use Rattle.shared_store.specs.Store.{Answers, MakesAtMost, StoreView, own_of, seen, shape_in, taken_by, reads_of}
 use Rattle.store_rounds.specs.Sessions.{IsFreeSession}
 use Rattle.shared_store.specs.declared.session.Session.{Session}
 use Rattle.store_rounds.specs.Answered.{Answered, most_events}
+use Rattle.shared_store.specs.Reads.{ReadSet}
 
 -- ---- refused without a transaction
 
 -- A command that is refused without a transaction is told that it has none.
 refusal_is : (command : Command) → is_some (refusal_of command None) ≡ true → refusal_of command None ≡ Some said.NoTransaction
-refusal_is command.Begin some = absurd (true≢false (sym some))
+refusal_is (command.Begin checked) some = absurd (true≢false (sym some))
 refusal_is (command.Get table key) some = refl
 refusal_is (command.Scan table) some = refl
+refusal_is (command.Range table low high) some = refl
+refusal_is (command.Total table column low high) some = refl
 refusal_is (command.Insert table row) some = refl
 refusal_is (command.Update table row) some = refl
 refusal_is (command.Delete table key) some = refl
@@ -59,10 +62,11 @@ none_open (Some x) none = absurd (true≢false none)
 pub refused : (store : StoreView) (s : Session) (command : Command) → IsFreeSession store s
     → is_some (refusal_of command None) ≡ true → is_some (own_of s) ≡ false → Answers store s s command said.NoTransaction
 refused store s command is needs closed =
-    let call : Call = record { command = command; made = []; told = Some said.NoTransaction } in
+    let call : Call = record { command = command; made = []; told = Some said.NoTransaction; reads = reads_of s } in
     let nothing : own_after (own_in (shape_in store) s.session (seen s)) ≡ None = sym is.stands.own ∙ none_open (own_of s) closed in
     record {
       made = [];
+      keeps = refl;
       called = nothing_called (shape_in store) false s.session (seen s) call refl
           (subst (λ own. IsCallBy (shape_in store) false s.session own (refusal_of command own) call) (sym nothing)
           (subst (λ told. IsCallBy (shape_in store) false s.session None told call) (sym (refusal_is command needs)) (refl, refl)));
@@ -110,31 +114,35 @@ thaw_and_write table None e = omega arith
 thaw_and_write table (Some block) e = omega arith
 
 -- the events of any command but one of upkeep
-events_few : (shape : Shape) (own : Option OwnTransaction) (session : ℕ) (asked : Command) (made : List Occurrence)
+events_few : (shape : Shape) (own : Option OwnTransaction) (kept : Option ReadSet) (session : ℕ) (asked : Command) (made : List Occurrence)
     → ((table : ℕ) → blocks_of shape table ≤ 2 ^ 10) → is_upkeep asked ≡ false
-    → length (events_of shape own session asked made) ≤ most_events
-events_few shape own session command.Begin made few other = omega arith
-events_few shape None session (command.Get table key) made few other = omega arith
-events_few shape (Some t) session (command.Get table key) made few other = omega arith
-events_few shape None session (command.Scan table) made few other = omega arith
-events_few shape (Some t) session (command.Scan table) made few other = let reads = reads_few shape table (event.Read t table) (few table) in omega (arith, reads)
-events_few shape None session (command.Insert table row) made few other = omega arith
-events_few shape (Some t) session (command.Insert table row) made few other = omega arith
-events_few shape None session (command.Update table row) made few other = omega arith
-events_few shape (Some t) session (command.Update table row) made few other = thaw_and_write table _ _
-events_few shape None session (command.Delete table key) made few other = omega arith
-events_few shape (Some t) session (command.Delete table key) made few other = thaw_and_write table _ _
-events_few shape None session command.Commit made few other = omega arith
-events_few shape (Some t) session command.Commit made few other = omega arith
-events_few shape None session command.Abort made few other = omega arith
-events_few shape (Some t) session command.Abort made few other = omega arith
-events_few shape own session command.Observe made few other = absurd (true≢false other)
-events_few shape own session command.Prune made few other = absurd (true≢false other)
-events_few shape own session (command.Compact table) made few other = absurd (true≢false other)
-events_few shape own session (command.Seal table block) made few other = absurd (true≢false other)
-events_few shape own session (command.Gather table block) made few other = absurd (true≢false other)
-events_few shape None session (command.Export table) made few other = omega arith
-events_few shape (Some t) session (command.Export table) made few other = let reads = reads_few shape table (event.Read t table) (few table) in omega (arith, reads)
+    → length (events_of shape own kept session asked made) ≤ most_events
+events_few shape own kept session (command.Begin checked) made few other = omega arith
+events_few shape None kept session (command.Get table key) made few other = omega arith
+events_few shape (Some t) kept session (command.Get table key) made few other = omega arith
+events_few shape None kept session (command.Scan table) made few other = omega arith
+events_few shape (Some t) kept session (command.Scan table) made few other = let reads = reads_few shape table (event.Read t table) (few table) in omega (arith, reads)
+events_few shape None kept session (command.Range table low high) made few other = omega arith
+events_few shape (Some t) kept session (command.Range table low high) made few other = let reads = reads_few shape table (event.Read t table) (few table) in omega (arith, reads)
+events_few shape None kept session (command.Total table column low high) made few other = omega arith
+events_few shape (Some t) kept session (command.Total table column low high) made few other = let reads = reads_few shape table (event.Read t table) (few table) in omega (arith, reads)
+events_few shape None kept session (command.Insert table row) made few other = omega arith
+events_few shape (Some t) kept session (command.Insert table row) made few other = omega arith
+events_few shape None kept session (command.Update table row) made few other = omega arith
+events_few shape (Some t) kept session (command.Update table row) made few other = thaw_and_write table _ _
+events_few shape None kept session (command.Delete table key) made few other = omega arith
+events_few shape (Some t) kept session (command.Delete table key) made few other = thaw_and_write table _ _
+events_few shape None kept session command.Commit made few other = omega arith
+events_few shape (Some t) kept session command.Commit made few other = omega arith
+events_few shape None kept session command.Abort made few other = omega arith
+events_few shape (Some t) kept session command.Abort made few other = omega arith
+events_few shape own kept session command.Observe made few other = absurd (true≢false other)
+events_few shape own kept session command.Prune made few other = absurd (true≢false other)
+events_few shape own kept session (command.Compact table) made few other = absurd (true≢false other)
+events_few shape own kept session (command.Seal table block) made few other = absurd (true≢false other)
+events_few shape own kept session (command.Gather table block) made few other = absurd (true≢false other)
+events_few shape None kept session (command.Export table) made few other = omega arith
+events_few shape (Some t) kept session (command.Export table) made few other = let reads = reads_few shape table (event.Read t table) (few table) in omega (arith, reads)
 
 -- A call of a command that is no upkeep makes few events.
 made_few : (shape : Shape) (worker : Bool) (session : ℕ) (own : Option OwnTransaction) (refusal : Option Said) (call : Call)
@@ -142,12 +150,12 @@ made_few : (shape : Shape) (worker : Bool) (session : ℕ) (own : Option OwnTran
     → IsCallBy shape worker session own refusal call → length call.made ≤ most_events
 made_few shape worker session own (Some line) call few other (none, told) = let e = ap length none in omega (arith, e)
 made_few shape worker session own None call few other (inl whole) =
-    let all = events_few shape own session call.command call.made few other in
+    let all = events_few shape own call.reads session call.command call.made few other in
     let same = ap length whole.events in
     let each = length-map call.made (λ (occurrence : Occurrence). occurrence.event) in
     omega (arith, all, same, each)
 made_few shape worker session own None call few other (inr part) =
-    let all = events_few shape own session call.command call.made few other in
+    let all = events_few shape own call.reads session call.command call.made few other in
     let same = ap length part.events in
     let parted = length-append (events_in call.made) part.missed in
     let each = length-map call.made (λ (occurrence : Occurrence). occurrence.event) in
@@ -166,6 +174,6 @@ few_events store old new asked told exported now blocks answered = go (is_upkeep
         λ (table : ℕ). blocks_few (shape_in store).tables table blocks in
         let made = made_few (shape_in store) false old.session (own_after (own_in (shape_in store) old.session (seen old)))
         (refusal_of asked (own_after (own_in (shape_in store) old.session (seen old))))
-        (record { command = asked; made = answered.answers.made; told = Some told }) few other answered.answers.called.is_call in
+        (record { command = asked; made = answered.answers.made; told = Some told; reads = reads_of old }) few other answered.answers.called.is_call in
         let events = count_by-le-length (λ (occurrence : Occurrence). not (is_shared occurrence.reply)) answered.answers.made in
         omega (arith, made, events, answered.answers.count)

@@ -19,7 +19,7 @@ use Rattle.run_spec.specs.Handed.{own_in}
 use Rattle.run_spec.specs.Occurrences.{Occurrence, events_in}
 use Rattle.run_spec.specs.Opened.{own_after}
 use Rattle.run_spec.specs.Told.{is_shared, refusal_of}
-use Rattle.shared_store.specs.Store.{Answers, MakesAtMost, StoreView, most_blocks, seen, shape_in}
+use Rattle.shared_store.specs.Store.{Answers, MakesAtMost, StoreView, most_blocks, seen, shape_in, reads_of}
 use Rattle.shared_store.specs.declared.session.Session.{Session}
 use Rattle.workload_spec.specs.Valid.{is_table_place}
 use Rattle.workload_spec.specs.declared.command.Command.{Command}
@@ -45,9 +45,11 @@ upkeep_free command.Prune own is = refl
 upkeep_free (command.Compact table) own is = refl
 upkeep_free (command.Seal table block) own is = refl
 upkeep_free (command.Gather table block) own is = refl
-upkeep_free command.Begin own is = absurd (true≢false (sym is))
+upkeep_free (command.Begin checked) own is = absurd (true≢false (sym is))
 upkeep_free (command.Get table key) own is = absurd (true≢false (sym is))
 upkeep_free (command.Scan table) own is = absurd (true≢false (sym is))
+upkeep_free (command.Range table low high) own is = absurd (true≢false (sym is))
+upkeep_free (command.Total table column low high) own is = absurd (true≢false (sym is))
 upkeep_free (command.Insert table row) own is = absurd (true≢false (sym is))
 upkeep_free (command.Update table row) own is = absurd (true≢false (sym is))
 upkeep_free (command.Delete table key) own is = absurd (true≢false (sym is))
@@ -87,7 +89,7 @@ sweeps_few shape event few many =
 
 -- a call makes no more events than it is asked
 made_few : (shape : Shape) (session : ℕ) (own : Option OwnTransaction) (refusal : Option Said) (call : Call) (most : ℕ)
-    → length (events_of shape own session call.command call.made) ≤ most → IsCallBy shape false session own refusal call → length call.made ≤ most
+    → length (events_of shape own call.reads session call.command call.made) ≤ most → IsCallBy shape false session own refusal call → length call.made ≤ most
 made_few shape session own (Some line) call most few (none, told) = let nothing = ap length none in omega (arith, nothing)
 made_few shape session own None call most few (inl whole) =
     let same = ap length whole.events in
@@ -101,11 +103,11 @@ made_few shape session own None call most few (inr part) =
 
 -- a command that is carried out by few events makes few
 pub few_made : (store : StoreView) (old new : Session) (command : Command) (told : Said) (most : ℕ)
-    → ((own : Option OwnTransaction) (made : List Occurrence) → length (events_of (shape_in store) own old.session command made) ≤ most)
+    → ((own : Option OwnTransaction) (made : List Occurrence) → length (events_of (shape_in store) own (reads_of old) old.session command made) ≤ most)
     → Answers store old new command told → MakesAtMost most old new
 few_made store old new command told most few answers =
     let own : Option OwnTransaction = own_after (own_in (shape_in store) old.session (seen old)) in
-    let made = made_few (shape_in store) old.session own (refusal_of command own) (record { command = command; made = answers.made; told = Some told }) most
+    let made = made_few (shape_in store) old.session own (refusal_of command own) (record { command = command; made = answers.made; told = Some told; reads = reads_of old }) most
     (few own answers.made) answers.called.is_call in
     let events = count_by-le-length (λ (occurrence : Occurrence). not (is_shared occurrence.reply)) answers.made in
     omega (arith, made, events, answers.count)

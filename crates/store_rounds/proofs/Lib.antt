@@ -7,6 +7,8 @@ mod Faults
 mod Scripts
 mod Sends
 mod Ranges
+mod Keeps
+mod Readings
 mod Turns
 mod Rows
 mod Agendas

@@ -23,7 +23,7 @@ goes_before script first rest before exported split valid = record {
   rounds = split;
   ran = [];
   text = [];
-  went = went_so_far script [] [] exported exported (All-nil AreCounted) (nothing_sent script.tables exported) [] script.rounds refl valid (nothing_ran script);
+  went = went_so_far script [] [] exported exported (All-nil AreCounted) (λ who. tt) (nothing_sent script.tables exported) [] script.rounds refl valid (nothing_ran script);
   printed = Appends-nil before;
 }
 

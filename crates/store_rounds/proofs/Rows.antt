@@ -19,13 +19,14 @@ saw_all log = ([], sym (append-nil log))
 
 -- a session looks on to itself
 pub stays : (store : StoreView) (session : Session) → IsFreeSession store session → LooksOn store session session
-stays store session is = record { is_session = is; same = refl; saw = saw_all (seen session); nothing_more = refl; made = refl }
+stays store session is = record { is_session = is; same = refl; kept = refl; saw = saw_all (seen session); nothing_more = refl; made = refl }
 
 -- a session that looks on twice has looked on
 pub looks_further : (store : StoreView) (old now new : Session) → LooksOn store old now → LooksOn store now new → LooksOn store old new
 looks_further store old now new first second = record {
   is_session = second.is_session;
   same = second.same ∙ first.same;
+  kept = second.kept ∙ first.kept;
   saw = further (seen old) (seen now) (seen new) first.saw second.saw;
   nothing_more = second.nothing_more ∙ first.nothing_more;
   made = second.made ∙ first.made;
@@ -54,6 +55,7 @@ looks_met : (store : StoreView) (old new : Session) → IsFreeSession store old 
 looks_met store old new is met = record {
   is_session = record { stands = met.session; free = met.reads.claim ∙ is.free };
   same = met.same;
+  kept = met.kept;
   saw = met.sees;
   nothing_more = ap (λ n. own_in (shape_in store) n (seen new)) met.same ∙ met.own;
   made = met.made;

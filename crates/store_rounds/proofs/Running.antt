@@ -1,5 +1,5 @@
 -- A run, round by round.
-use Rattle.std.proofs.Common.{◌≡◌, ℕ, ◌+◌, ◌*◌, ◌<◌, ◌≤◌, ◌^◌, true, cond, List, [], ◌∷◌, ◌++◌, map, length, get_or, Option, refl, sym, ap, ◌∙◌, subst, append-nil, append_assoc, arith, length-append}
+use Rattle.std.proofs.Common.{◌≡◌, ℕ, ◌+◌, ◌*◌, ◌<◌, ◌≤◌, ◌^◌, true, ◌&&◌, None, cond, List, [], ◌∷◌, ◌++◌, map, length, get_or, Option, refl, sym, ap, ◌∙◌, subst, append-nil, append_assoc, arith, length-append}
 use Rattle.std.specs.Prelude.{All, count_by, sum_by}
 use Rattle.std.specs.List.{flat_map, list_all, range_with_len}
 use Rattle.std.specs.Io.KnownBytes.{Appends}
@@ -13,15 +13,16 @@ use Rattle.std.proofs.lemmas.List.Folds.{list_all-append}
 use Rattle.std.proofs.lemmas.List.Sums.{sum_by-append}
 use Rattle.byte_ports.specs.Calls.{AppendsFront}
 use Rattle.export_spec.specs.Calls.{calls_in}
-use Rattle.workload_spec.specs.Valid.{all_lines, is_command, is_export, is_line, is_valid, is_within}
+use Rattle.workload_spec.specs.Valid.{all_lines, is_command, is_export, is_line, is_valid, is_within, takes_command}
 use Rattle.workload_spec.specs.declared.reply.Who.{Who}
 use Rattle.workload_spec.specs.declared.reply.Who.TheVariants.{Session as TheSession, Worker as TheWorker}
 use Rattle.workload_spec.specs.declared.script.Line.{Line}
 use Rattle.workload_spec.specs.declared.script.Script.{Script}
 use Rattle.event_spec.specs.Parts.{Shape}
-use Rattle.run_spec.specs.Calls.{Call}
+use Rattle.run_spec.specs.Calls.{Call, Kept}
 use Rattle.run_spec.specs.Occurrences.{Logged}
 use Rattle.run_spec.specs.Ran.{RoundRun, Share, shape_of}
+use Rattle.run_spec.specs.Ran.{calls_of as kept_calls}
 use Rattle.run_laws.proofs.Rounds.Lines.{rounds_grow}
 use Rattle.run_laws.proofs.Rounds.Rounds.{nothing_ran, rounds_go_on}
 use Rattle.run_laws.specs.Rounds.Lines.{round_text, rounds_text}
@@ -39,6 +40,7 @@ use Rattle.store_rounds.specs.Worked.{share_of}
 use Rattle.store_rounds.specs.Workloads.{GoesCutOff, GoesWhole}
 use Rattle.store_rounds.specs.declared.crew.Crew.{Crew}
 use Rattle.store_rounds.proofs.Duties.{commands_few}
+use Rattle.store_rounds.proofs.Readings.{KeptBy, kept_begins, kept_by, kept_further}
 use Rattle.store_rounds.proofs.Runs.{Place, gone_on, is_row, of_session, of_worker, place, row_met, shares_counted, stand_behind}
 use Rattle.store_rounds.proofs.Scripts.{few_exports, few_turns, has_sessions, lines_are_valid}
 use Rattle.store_rounds.proofs.Sends.{calls_sent, nothing_sent}
@@ -75,6 +77,7 @@ pub record Running (script : Script) (store : StoreView) (row : List Session) (a
   pub finished : List Logged
   pub ran : RanSoFar script asked rounds finished
   pub counted : All AreCounted rounds
+  pub kept : KeptBy script row rounds
   pub stands : Standing store finished row
   pub is : IsRowOf script store row
   pub some : 0 < script.sessions
@@ -109,6 +112,7 @@ running_begins script store row before exported valid shape new = record {
   finished = [];
   ran = nothing_ran script;
   counted = All-nil AreCounted;
+  kept = kept_begins script row new.many (λ k d within. (new_at store (script.sessions + script.workers) row k d new within).unread);
   stands = new_row_stands store (script.sessions + script.workers) row new;
   is = record { shape = shape; size = new.many };
   some = let one = has_sessions script valid in omega (arith, one);
@@ -119,6 +123,17 @@ running_begins script store row before exported valid shape new = record {
   count = refl;
   asked_count = refl;
 }
+
+-- one of a row that has one
+pub one_of : (row : List Session) → 0 < length row → Session
+one_of [] some = absurd (omega (arith, some))
+one_of (d ∷ row) some = d
+
+-- the calls of each keep what it read
+pub keeps_now : (script : Script) (store : StoreView) (row : List Session) (asked : List (List Line)) (before now exported exported_now : Option (List ℕ)) (number : ℕ)
+    → (running : Running script store row asked before now exported exported_now number) → (who : Who) → Kept None (kept_calls who running.rounds)
+keeps_now script store row asked before now exported exported_now number running =
+    kept_by script row running.rounds (one_of row (let size = running.is.size in let some = running.some in omega (arith, size, some))) running.kept
 
 -- the calls of the shares of so many of a kind
 pub calls_in_shares : (who : ℕ → Who) (calls : ℕ → List Call) (numbers : List ℕ)
@@ -135,11 +150,6 @@ calls_in_crew crew calls =
     (calls_in_shares (λ n. TheSession n) (λ n. calls (TheSession n)) (range_with_len 1 crew.sessions))
     ∙ ap (λ (cs : List Call). calls_of crew.sessions (λ n. calls (TheSession n)) ++ cs)
     (calls_in_shares (λ n. TheWorker n) (λ n. calls (TheWorker n)) (range_with_len 1 crew.workers))
-
--- one of a row that has one
-pub one_of : (row : List Session) → 0 < length row → Session
-one_of [] some = absurd (omega (arith, some))
-one_of (d ∷ row) some = d
 
 -- A round of these lines ran on a row of the script's sessions and workers.
 pub record RoundDone (script : Script) (store : StoreView) (old new : List Session) (lines : List Line) (exported exported_now : Option (List ℕ)) : Type 0 where
@@ -187,6 +197,13 @@ module _ (script : Script) (store : StoreView) (old new : List Session) (asked :
   pub counted_further : All AreCounted both
   counted_further = All-append AreCounted running.rounds (round ∷ []) running.counted
       (All-cons AreCounted round [] (shares_counted script store running.finished old new running.is running.stands done.calls done.ran first_of_row) (All-nil AreCounted))
+
+  -- what each has read is what its calls keep, with this round too
+  pub kept_more : KeptBy script new both
+  kept_more = kept_further script store old new done.calls running.rounds round done.ran refl running.kept
+
+  pub keeps_more : (who : Who) → Kept None (kept_calls who both)
+  keeps_more = kept_by script new both first_of_row kept_more
 
   -- the text of the rounds grows by the text of this one
   pub text_further : rounds_text script.tables 1 both
@@ -265,6 +282,7 @@ module _ (script : Script) (store : StoreView) (old new : List Session) (asked :
     finished = running.finished ++ more script store old new asked before now exported exported_now exported_later number running lines done;
     ran = ran_further script store old new asked before now exported exported_now exported_later number running lines done;
     counted = counted_further script store old new asked before now exported exported_now exported_later number running lines done;
+    kept = kept_more script store old new asked before now exported exported_now exported_later number running lines done;
     stands = stands_further script store old new asked before now exported exported_now exported_later number running lines done;
     is = is_row script store running.finished old new running.is running.stands did.calls did.ran;
     some = running.some;
@@ -306,6 +324,7 @@ module _ (script : Script) (store : StoreView) (old new : List Session) (asked :
                   (running.finished ++ more script store old new asked before now exported exported_now exported_later number running lines done)
                   exported exported_later
                   (counted_further script store old new asked before now exported exported_now exported_later number running lines done)
+                  (keeps_more script store old new asked before now exported exported_now exported_later number running lines done)
                   (sent_further script store old new asked before now exported exported_now exported_later number running lines done)
                   (asked ++ lines ∷ []) rest parted valid
                   (ran_further script store old new asked before now exported exported_now exported_later number running lines done);
@@ -325,7 +344,7 @@ running_ends script store row asked before now exported exported_now number vali
   text = rounds_text script.tables 1 running.rounds;
   went = subst (λ (rounds : List (List Line)). RunsIn script store row exported exported_now rounds running.rounds (rounds_text script.tables 1 running.rounds)) all
       (record {
-        went = went_so_far script running.rounds running.finished exported exported_now running.counted running.sent asked []
+        went = went_so_far script running.rounds running.finished exported exported_now running.counted (keeps_now script store row asked before now exported exported_now number running) running.sent asked []
             (sym all ∙ sym (append-nil asked)) valid running.ran;
         stands = running.stands;
       });
@@ -353,7 +372,8 @@ module _ (script : Script) where
   each_within (line ∷ lines) all =
       let parts = and_parts (is_line script line) (list_all (is_line script) lines) all in
       and_from (is_within 1 script.sessions line.session) (list_all (λ (line : Line). is_within 1 script.sessions line.session) lines)
-      (and_parts (is_within 1 script.sessions line.session) (is_command script.tables line.command) parts.0).0
+      (and_parts (is_within 1 script.sessions line.session) (is_command script.tables line.command)
+      (and_parts (is_within 1 script.sessions line.session && is_command script.tables line.command) (takes_command script.version line.command) parts.0).0).0
       (each_within lines parts.1)
 
   -- The command of each valid line may be asked of the script's tables.
@@ -362,7 +382,9 @@ module _ (script : Script) where
   each_served (line ∷ lines) all =
       let parts = and_parts (is_line script line) (list_all (is_line script) lines) all in
       All-cons (λ (line : Line). IsServed script.tables line.command) line lines
-      (and_parts (is_within 1 script.sessions line.session) (is_command script.tables line.command) parts.0).1
+      (let its = and_parts (is_within 1 script.sessions line.session && is_command script.tables line.command) (takes_command script.version line.command) parts.0 in
+      let both = and_parts (is_within 1 script.sessions line.session) (is_command script.tables line.command) its.0 in
+      record { names = both.1; version = script.version; taken = its.1 })
       (each_served lines parts.1)
 
 module _ (script : Script) (store : StoreView) (row : List Session) (asked rest : List (List Line)) (lines : List Line)

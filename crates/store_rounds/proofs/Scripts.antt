@@ -156,6 +156,7 @@ may_open script valid =
         slots_few = each (λ table. table.slots ≤ 2 ^ 15) (λ table has. has.few_slots);
         schemas = each (λ table. IsSchema table.schema) (λ table has. has.schema);
       };
+      few = parts.few_tables;
       blocks = each (λ table. 1 ≤ table.blocks) (λ table has. has.some_blocks);
       slots = each (λ table. 1 ≤ table.slots) (λ table has. has.some_slots);
     }

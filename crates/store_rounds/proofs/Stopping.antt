@@ -30,7 +30,7 @@ use Rattle.store_rounds.specs.declared.fault.RunFault.{RunFault}
 use Rattle.store_rounds.specs.declared.fault.RunFault.TheVariants as fault
 use Rattle.store_rounds.proofs.Duties.{two_counted}
 use Rattle.store_rounds.proofs.WholeRounds.{ends_exports}
-use Rattle.store_rounds.proofs.Running.{RoundDone, Running, both, counted_further, more, ran_further, round, round_once, round_within, sent_further, stands_further, text_further}
+use Rattle.store_rounds.proofs.Running.{RoundDone, Running, both, counted_further, more, ran_further, round, round_once, round_within, sent_further, stands_further, text_further, keeps_more, keeps_now}
 use Rattle.store_rounds.proofs.Went.{explained_so_far, went, went_so_far}
 
 -- ---- the lines that were carried out
@@ -177,7 +177,7 @@ module _ (script : Script) (store : StoreView) (old new : List Session) (asked r
       shown = rounds_text script.tables 1 running.rounds;
       hidden = round_text script.tables (number + 1) these;
       of_round = ap (λ n. round_text script.tables (n + 1) these) running.asked_count;
-      explained_shown = explained_so_far script running.rounds running.finished exported exported_now running.counted running.sent
+      explained_shown = explained_so_far script running.rounds running.finished exported exported_now running.counted (keeps_now script store old asked before now exported exported_now number running) running.sent
           asked (lines ∷ rest) (sym split) valid running.ran;
       went = subst (RunsIn script store new exported exported_later (asked ++ kept ∷ [])
           (both script store old new asked before now exported exported_now exported_later number running kept done))
@@ -208,6 +208,7 @@ module _ (script : Script) (store : StoreView) (old new : List Session) (asked r
           (running.finished ++ more script store old new asked before now exported exported_now exported_later number running first first_done)
           exported exported_later
           (counted_further script store old new asked before now exported exported_now exported_later number running first first_done)
+          (keeps_more script store old new asked before now exported exported_now exported_later number running first first_done)
           (sent_further script store old new asked before now exported exported_now exported_later number running first first_done)
           (asked ++ first ∷ []) (fronts_are_valid script counts lines asked rest (sym split) valid)
           (ran_further script store old new asked before now exported exported_now exported_later number running first first_done);
@@ -278,6 +279,7 @@ module _ (script : Script) (store : StoreView) (old new : List Session) (asked r
           (running.finished ++ more script store old new asked before now exported exported_now exported_later number running lines all_done)
           exported exported_later
           (counted_further script store old new asked before now exported exported_now exported_later number running lines all_done)
+          (keeps_more script store old new asked before now exported exported_now exported_later number running lines all_done)
           (sent_further script store old new asked before now exported exported_now exported_later number running lines all_done)
           (asked ++ lines ∷ []) rest (sym split ∙ sym (append_assoc asked (lines ∷ []) rest)) valid
           (ran_further script store old new asked before now exported exported_now exported_later number running lines all_done);
@@ -297,7 +299,7 @@ module _ (script : Script) (store : StoreView) (old new : List Session) (asked r
         ran = running.rounds;
         text = rounds_text script.tables 1 running.rounds;
         went = record {
-          went = went_so_far script running.rounds running.finished exported exported_now running.counted running.sent asked (lines ∷ rest) (sym split) valid running.ran;
+          went = went_so_far script running.rounds running.finished exported exported_now running.counted (keeps_now script store old asked before now exported exported_now number running) running.sent asked (lines ∷ rest) (sym split) valid running.ran;
           stands = running.stands;
         };
         printed = running.printed;

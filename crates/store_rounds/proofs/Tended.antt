@@ -17,13 +17,13 @@ use Rattle.outcome_spec.specs.Forms.{is_silent, is_upkeep, turn_of}
 use Rattle.run_laws.specs.Rounds.Lines.{told_by}
 use Rattle.run_laws.specs.Rounds.Texts.{IsCounted}
 use Rattle.run_laws.proofs.Rounds.Working.{called_earlier, further, nothing_done}
-use Rattle.run_spec.specs.Calls.{Call, IsCall, IsCallBy, line_to}
-use Rattle.run_spec.specs.Handed.{Called, GoesOn, Works, own_in}
+use Rattle.run_spec.specs.Calls.{Call, IsCallBy, line_to}
+use Rattle.run_spec.specs.Handed.{Works, own_in}
 use Rattle.run_spec.specs.Occurrences.{Logged, Occurrence}
 use Rattle.run_spec.specs.Opened.{own_after}
 use Rattle.run_spec.specs.Told.{refusal_of}
 use Rattle.shared_store.proofs.Scanned.{below_more}
-use Rattle.shared_store.specs.Store.{Answers, MakesAtMost, StoreView, seen, shape_in}
+use Rattle.shared_store.specs.Store.{Answers, MakesAtMost, StoreView, seen, shape_in, reads_of}
 use Rattle.store_rounds.specs.Sessions.{IsFreeSession}
 use Rattle.shared_store.specs.declared.session.Session.{Session}
 use Rattle.workload_spec.specs.Valid.{is_block_of}
@@ -35,17 +35,19 @@ use Rattle.store_rounds.specs.Keeping.{Counts}
 use Rattle.store_rounds.specs.Turns.{KeepsUp, MadeTurn, Tells, asked_of_block, asked_of_table, asked_of_tables, most_of_turn}
 use Rattle.store_rounds.specs.declared.upkeep_lines.Lines.{Lines}
 use Rattle.store_rounds.proofs.Kept.{none_is_some, upkeep_free}
+use Rattle.shared_store.specs.Reads.{ReadSet}
+use Rattle.store_rounds.proofs.Keeps.{along_on, along_one, silent_reads}
 
 -- ---- a session's call of upkeep as a worker's
 
 -- A worker's call is a session's, but for its line.
-call_by_worker : (shape : Shape) (session : ℕ) (own : Option OwnTransaction) (refusal : Option Said) (command : Command) (made : List Occurrence) (told : Said) → refusal ≡ None
-    → IsCallBy shape false session own refusal (record { command = command; made = made; told = Some told })
-    → IsCallBy shape true session own refusal (record { command = command; made = made; told = line_to true (Some told) })
-call_by_worker shape session own (Some line) command made told free is = absurd (none_is_some line free)
-call_by_worker shape session own None command made told free (inl whole) =
+call_by_worker : (shape : Shape) (session : ℕ) (own : Option OwnTransaction) (reads : Option ReadSet) (refusal : Option Said) (command : Command) (made : List Occurrence) (told : Said) → refusal ≡ None
+    → IsCallBy shape false session own refusal (record { command = command; made = made; told = Some told; reads = reads })
+    → IsCallBy shape true session own refusal (record { command = command; made = made; told = line_to true (Some told); reads = reads })
+call_by_worker shape session own reads (Some line) command made told free is = absurd (none_is_some line free)
+call_by_worker shape session own reads None command made told free (inl whole) =
     inl (record { events = whole.events; granted = whole.granted; line = ap (line_to true) whole.line })
-call_by_worker shape session own None command made told free (inr part) =
+call_by_worker shape session own reads None command made told free (inr part) =
     inr (record { may = part.may; missed = part.missed; events = part.events; cut = part.cut; line = ap (line_to true) part.line })
 
 -- what a worker's line counts its answer counts
@@ -57,10 +59,10 @@ counted_by_worker told counts count line = counts count (shown (is_silent told) 
     shown false e = cc
 
 -- one call tells its line
-told_by_one : (command : Command) (made : List Occurrence) (told : Option Said)
-    → told_by (record { command = command; made = made; told = told } ∷ []) ≡ option_to_list told
-told_by_one command made None = refl
-told_by_one command made (Some told) = refl
+told_by_one : (command : Command) (made : List Occurrence) (told : Option Said) (reads : Option ReadSet)
+    → told_by (record { command = command; made = made; told = told; reads = reads } ∷ []) ≡ option_to_list told
+told_by_one command made None reads = refl
+told_by_one command made (Some told) reads = refl
 
 -- ---- calls one behind the other
 
@@ -94,6 +96,7 @@ module _ (store : StoreView) where
     works = nothing_done (shape_in store) true s.session (seen s);
     asked = refl;
     counted = All-nil IsCounted;
+    kept = refl;
     lines = λ kept. (kept, sym (append-nil lines.told.items));
     few = omega arith;
   }
@@ -110,13 +113,14 @@ module _ (store : StoreView) where
       seen new,
       record {
         stretch = answers.called.stretch;
-        is_call = call_by_worker (shape_in store) old.session own (refusal_of command own) command answers.made told (upkeep_free command own upkeep) answers.called.is_call;
+        is_call = call_by_worker (shape_in store) old.session own (reads_of old) (refusal_of command own) command answers.made told (upkeep_free command own upkeep) answers.called.is_call;
       },
       nothing_done (shape_in store) true old.session (seen new),
     );
     asked = refl;
     counted = All-cons IsCounted call [] (counted_by_worker told counts) (All-nil IsCounted);
-    lines = subst (Tells before now) (sym (told_by_one command answers.made (line_to true (Some told)))) tells;
+    kept = along_one (reads_of old) (reads_of new) call refl (answers.keeps ∙ sym (silent_reads (reads_of old) command told));
+    lines = subst (Tells before now) (sym (told_by_one command answers.made (line_to true (Some told)) (reads_of old))) tells;
     few = few;
   }
     where
@@ -124,7 +128,7 @@ module _ (store : StoreView) where
       own = own_after (own_in (shape_in store) old.session (seen old))
 
       call : Call
-      call = record { command = command; made = answers.made; told = line_to true (Some told) }
+      call = record { command = command; made = answers.made; told = line_to true (Some told); reads = reads_of old }
 
   -- upkeep behind upkeep is upkeep
   pub keeps_on : (old mid new : Session) (before between now : Lines) (xs ys : List Command) (m n : ℕ)
@@ -139,6 +143,7 @@ module _ (store : StoreView) where
         ∙ ap (λ (commands : List Command). commands ++ map (λ (call : Call). call.command) b.calls) a.asked
         ∙ ap (λ (commands : List Command). xs ++ commands) b.asked;
     counted = All-append IsCounted a.calls b.calls a.counted b.counted;
+    kept = along_on (reads_of old) a.calls (reads_of mid) b.calls (reads_of new) a.kept b.kept;
     lines = subst (Tells before now) (sym (filter_map-append (λ (call : Call). call.told) a.calls b.calls))
         (told_on before between now (told_by a.calls) (told_by b.calls) a.lines b.lines);
     few = let first = a.few in let second = b.few in omega (arith, first, second);
@@ -154,6 +159,7 @@ module _ (store : StoreView) where
     works = k.works;
     asked = k.asked ∙ same;
     counted = k.counted;
+    kept = k.kept;
     lines = k.lines;
     few = let few = k.few in omega (arith, few, more);
   }
@@ -169,6 +175,7 @@ module _ (store : StoreView) where
     works = k.works;
     asked = k.asked;
     counted = k.counted;
+    kept = k.kept;
     lines = lines_of told all;
     few = let made = k.few in omega (arith, made, few);
   }

@@ -15,7 +15,7 @@ use Rattle.run_laws.proofs.Rounds.Lines.{shares_grow}
 use Rattle.run_laws.proofs.Rounds.Working.{nothing_done, work_goes_on}
 use Rattle.run_laws.specs.Rounds.Lines.{line_behind, line_of, share_text, told_by}
 use Rattle.run_laws.specs.Rounds.Texts.{IsCounted}
-use Rattle.shared_store.specs.Store.{HasRoomFor, MakesAtMost, StoreView, seen, shape_in}
+use Rattle.shared_store.specs.Store.{HasRoomFor, MakesAtMost, StoreView, seen, shape_in, reads_of}
 use Rattle.store_rounds.specs.Sessions.{IsFreeSession}
 use Rattle.shared_store.specs.declared.session.Session.{Session}
 use Rattle.store_rounds.specs.Answered.{Answered, SentBy, most_events}
@@ -25,6 +25,7 @@ use Rattle.store_rounds.specs.Worked.{Worked, asked_in, share_of}
 use Rattle.store_rounds.specs.declared.fault.RunFault.{RunFault}
 use Rattle.store_rounds.specs.declared.fault.RunFault.TheVariants as fault
 use Rattle.store_rounds.proofs.Sends.{call_sent, nothing_sent}
+use Rattle.store_rounds.proofs.Keeps.{along_on, along_one}
 
 -- A session within its turn: these commands were carried out, and told so many lines. Unless one of
 -- the lines was lost, the text has them.
@@ -42,7 +43,7 @@ pub turn_begins : {T : Type 0} (store : StoreView) (round : ℕ) (session : Sess
     → IsFreeSession store session → Turn {T = T} store round session session [] text text (Ok value) exported exported 0
 turn_begins store round session text exported value is = record {
   calls = [];
-  worked = record { is_session = is; same = refl; works = nothing_done (shape_in store) false session.session (seen session); counted = All-nil IsCounted; few = omega arith };
+  worked = record { is_session = is; same = refl; works = nothing_done (shape_in store) false session.session (seen session); counted = All-nil IsCounted; kept = refl; few = omega arith };
   asked = refl;
   text = sym (append-nil text);
   sent = nothing_sent (shape_in store).tables exported;
@@ -55,7 +56,7 @@ module _ (store : StoreView) (old now new : Session) (calls : List Call) (comman
     (answered : Answered store now new command told exported_now exported_later) where
   -- The call of the command that was answered.
   abbrev call : Call
-  call = record { command = command; made = answered.answers.made; told = Some told }
+  call = record { command = command; made = answered.answers.made; told = Some told; reads = reads_of now }
 
   -- one call of few events more leaves few events for each of the calls
   pub worked_more : Worked store false (most_events * length calls) old now calls → MakesAtMost most_events now new
@@ -67,6 +68,7 @@ module _ (store : StoreView) (old now new : Session) (calls : List Call) (comman
         (subst (λ n. Called (shape_in store) false n (seen now) (seen new) call) worked.same answered.answers.called);
     counted = All-append IsCounted calls (call ∷ []) worked.counted
         (All-cons IsCounted call [] (λ count e. answered.counts count (told_is count e)) (All-nil IsCounted));
+    kept = along_on (reads_of old) calls (reads_of now) (call ∷ []) (reads_of new) worked.kept (along_one (reads_of now) (reads_of new) call refl answered.answers.keeps);
     few = let more = length_push calls call in let before = worked.few in omega (arith, few, before, more);
   }
     where
@@ -83,7 +85,7 @@ module _ {T : Type 0} (store : StoreView) (round : ℕ) (old now new : Session) 
     (answered : Answered store now new command told exported_now exported_later) (few : MakesAtMost most_events now new) where
   -- The call that is one more behind those of the turn.
   abbrev last_call : Call
-  last_call = record { command = command; made = answered.answers.made; told = Some told }
+  last_call = record { command = command; made = answered.answers.made; told = Some told; reads = reads_of now }
 
   -- The next line's number is one more than the lines that were told.
   next_index : index + 1 ≡ 1 + length (told_by turn.calls)

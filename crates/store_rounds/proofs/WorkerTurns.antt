@@ -23,7 +23,7 @@ use Rattle.run_laws.proofs.Rounds.Lines.{enumerate_append}
 use Rattle.run_laws.proofs.Rounds.Working.{further, nothing_done, work_goes_on}
 use Rattle.run_laws.specs.Rounds.Lines.{line_of, share_text, told_by}
 use Rattle.run_laws.specs.Rounds.Texts.{IsCounted}
-use Rattle.shared_store.specs.Store.{HasRoomFor, StoreView, seen, shape_in}
+use Rattle.shared_store.specs.Store.{HasRoomFor, StoreView, seen, shape_in, reads_of}
 use Rattle.store_rounds.specs.Sessions.{IsFreeSession}
 use Rattle.shared_store.specs.declared.session.Session.{Session}
 use Rattle.store_rounds.specs.Turns.{MadeTurn, most_of_turn}
@@ -32,6 +32,7 @@ use Rattle.store_rounds.specs.Turned.{PutTurn, TurnsMade, lines_behind}
 use Rattle.store_rounds.specs.Worked.{Worked, asked_in, share_of}
 use Rattle.store_rounds.specs.declared.fault.RunFault.{RunFault}
 use Rattle.store_rounds.proofs.Ranges.{one_behind}
+use Rattle.store_rounds.proofs.Keeps.{along_on}
 
 -- ---- calls behind calls
 
@@ -171,6 +172,7 @@ turning_begins store round worker session text is = record {
     same = refl;
     works = nothing_done (shape_in store) true session.session (seen session);
     counted = All-nil IsCounted;
+    kept = refl;
     few = omega arith;
   };
   asked = refl;
@@ -195,6 +197,7 @@ module _ {E : Type 0} (store : StoreView) (round worker : ℕ) (old now new : Se
     works = works_join (shape_in store) true old.session (seen old) (seen now) (seen new) turning.calls turn.calls turning.worked.works
         (subst (λ n. Works (shape_in store) true n (seen now) turn.calls (seen new)) turning.worked.same turn.works);
     counted = All-append IsCounted turning.calls turn.calls turning.worked.counted turn.counted;
+    kept = along_on (reads_of old) turning.calls (reads_of now) turn.calls (reads_of new) turning.worked.kept turn.kept;
     few = let first = turning.worked.few in let next = turn.few in omega (arith, first, next);
   }
 

@@ -9,13 +9,15 @@ use Rattle.run_laws.specs.Rounds.Lines.{told_by}
 use Rattle.run_laws.specs.Rounds.Texts.{IsCounted}
 use Rattle.run_spec.specs.Calls.{Call}
 use Rattle.run_spec.specs.Handed.{Works}
-use Rattle.shared_store.specs.Store.{MakesAtMost, StoreView, most_blocks_in_table, seen}
+use Rattle.shared_store.specs.Store.{MakesAtMost, StoreView, most_blocks_in_table, reads_of}
+use Rattle.shared_store.specs.Store.{seen}
 use Rattle.store_rounds.specs.Sessions.{IsFreeSession}
 use Rattle.shared_store.specs.Store.{shape_in}
 use Rattle.shared_store.specs.declared.session.Session.{Session}
 use Rattle.workload_spec.specs.declared.command.Command.{Command}
 use Rattle.workload_spec.specs.declared.command.Command.TheVariants as command
 use Rattle.workload_spec.specs.declared.reply.Said.{Said}
+use Rattle.store_rounds.specs.Worked.{KeptAlong}
 use Rattle.store_rounds.specs.declared.upkeep_lines.Lines.{Lines}
 
 -- ---- what is asked
@@ -71,6 +73,7 @@ pub record KeepsUp
   pub works : Works (shape_in store) true old.session (seen old) calls (seen new)
   pub asked : map (λ call. call.command) calls ≡ commands
   pub counted : All IsCounted calls
+  pub kept : KeptAlong (reads_of old) calls (reads_of new)
   pub lines : Tells before now (told_by calls)
   pub few : MakesAtMost most old new
 
@@ -85,5 +88,6 @@ pub record MadeTurn
   pub works : Works (shape_in store) true old.session (seen old) calls (seen new)
   pub asked : map (λ call. call.command) calls ≡ turn_of (shape_in store).tables
   pub counted : All IsCounted calls
+  pub kept : KeptAlong (reads_of old) calls (reads_of new)
   pub lines : IfOk told (λ lines. lines.items ≡ told_by calls)
   pub few : MakesAtMost most_of_turn old new

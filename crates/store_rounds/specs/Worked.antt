@@ -1,16 +1,25 @@
 -- What a session or worker did in a round.
-use Rattle.std.specs.Prelude.{◌≡◌, ℕ, Bool, true, List, [], ◌∷◌, ◌++◌, Some, map, All}
+use Rattle.std.specs.Prelude.{◌≡◌, ℕ, Bool, true, List, [], ◌∷◌, ◌++◌, Option}
+use Rattle.std.specs.Prelude.{Some, map, All}
 use Rattle.workload_spec.specs.declared.command.Command.{Command}
 use Rattle.workload_spec.specs.Valid.{is_export}
 use Rattle.workload_spec.specs.declared.reply.Said.TheVariants as said
 use Rattle.workload_spec.specs.declared.reply.Who.{Who}
-use Rattle.run_spec.specs.Calls.{Call}
+use Rattle.run_spec.specs.Calls.{Call, reads_now}
 use Rattle.run_spec.specs.Handed.{Works}
 use Rattle.run_spec.specs.Ran.{Share}
 use Rattle.run_laws.specs.Rounds.Texts.{IsCounted}
-use Rattle.shared_store.specs.Store.{MakesAtMost, StoreView, seen, shape_in}
+use Rattle.shared_store.specs.Reads.{ReadSet}
+use Rattle.shared_store.specs.Store.{MakesAtMost, StoreView, reads_of, seen, shape_in}
 use Rattle.store_rounds.specs.Sessions.{IsFreeSession}
 use Rattle.shared_store.specs.declared.session.Session.{Session}
+
+-- Calls one behind the other keep what was read: each has before it what those before it were told,
+-- and behind the last this was read.
+abbrev pub KeptAlong : Option ReadSet → List Call → Option ReadSet → Type 0
+KeptAlong before [] after = after ≡ before
+KeptAlong before (call ∷ calls) after =
+    (call.reads ≡ before) × KeptAlong (reads_now before call) calls after
 
 -- A session of the store, or a worker, carried out these calls, one behind the other, and made so
 -- many events at most.
@@ -21,6 +30,7 @@ pub record Worked
   pub same : new.session ≡ old.session
   pub works : Works (shape_in store) worker old.session (seen old) calls (seen new)
   pub counted : All IsCounted calls
+  pub kept : KeptAlong (reads_of old) calls (reads_of new)
   pub few : MakesAtMost most old new
 
 abbrev pub asked_in : List Call → List Command

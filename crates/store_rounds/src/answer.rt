@@ -13,7 +13,7 @@ ghost use Rattle.workload_spec.specs.Valid.{is_export};
 use crate::keeping::keep_up;
 use crate::sending::send;
 use crate::spent::Spent;
-use crate::told::{begun, found, scanned, written};
+use crate::told::{begun, committed, found, scanned, written};
 use byte_ports::{Failed, Sink};
 use shared_store::{Session, Store};
 use std::sync::Wait;
@@ -75,7 +75,8 @@ fn answer<R: Wait + Threads + Sync>(
         return Said::NoTransaction;
     }
     match command {
-        Command::Begin => begun(store.begin(rt, session)),
+        Command::Begin { checked: false } => begun(store.begin(rt, session)),
+        Command::Begin { checked: true } => begun(store.begin_checked(rt, session)),
         Command::Get { table, key } => found(store.get(rt, session, table, key)),
         Command::Scan { table } => scanned(store.scan_uncounted(rt, session, table)),
         Command::Insert { table, row } => {
@@ -87,7 +88,7 @@ fn answer<R: Wait + Threads + Sync>(
             written(table, store.update(rt, session, table, row))
         }
         Command::Delete { table, key } => written(table, store.delete(rt, session, table, key)),
-        Command::Commit => Said::Committed(store.commit(rt, session)),
+        Command::Commit => committed(store.commit(rt, session)),
         Command::Abort => {
             store.abort(rt, session);
             Said::Aborted
@@ -97,7 +98,7 @@ fn answer<R: Wait + Threads + Sync>(
         | Command::Compact { .. }
         | Command::Seal { .. }
         | Command::Gather { .. } => keep_up(rt, store, session, command),
-        Command::Export { .. } => unreachable!(),
+        Command::Export { .. } | Command::Range { .. } | Command::Total { .. } => unreachable!(),
     }
 }
 
@@ -106,7 +107,7 @@ fn needs_transaction(command: &Command) -> bool
     ensures { result ≡ is_some (refusal_of command.now None) }
 {
     match command {
-        Command::Begin
+        Command::Begin { .. }
         | Command::Observe
         | Command::Prune
         | Command::Compact { .. }
@@ -114,6 +115,8 @@ fn needs_transaction(command: &Command) -> bool
         | Command::Gather { .. } => false,
         Command::Get { .. }
         | Command::Scan { .. }
+        | Command::Range { .. }
+        | Command::Total { .. }
         | Command::Insert { .. }
         | Command::Update { .. }
         | Command::Delete { .. }

@@ -40,9 +40,11 @@ pub fn keep_up<R: Wait + Threads + Sync>(
         Command::Gather { table, block } => {
             gathered(table, block, store.gather(rt, session, table, block))
         }
-        Command::Begin
+        Command::Begin { .. }
         | Command::Get { .. }
         | Command::Scan { .. }
+        | Command::Range { .. }
+        | Command::Total { .. }
         | Command::Insert { .. }
         | Command::Update { .. }
         | Command::Delete { .. }

@@ -1,13 +1,15 @@
 //! The lines that the answers of a store's calls tell.
 ghost use Rattle.std.specs.Prelude.{◌≡◌};
-ghost use Rattle.run_spec.specs.Told.{fault_told};
-ghost use Rattle.shared_store.specs.Told.{begun_told, found_told, scanned_told, written_told};
+ghost use Rattle.run_spec.specs.Told.{fault_told, stale_of};
+ghost use Rattle.shared_store.specs.Told.{begun_told, committed_told, found_told, scanned_told};
+ghost use Rattle.shared_store.specs.Told.{written_told};
 
 use cell_model::{Row, Rows};
 use event_spec::WriteFault;
-use shared_store::{Busy, StoreFault};
+use isolation_spec::Read;
+use shared_store::{Busy, Stale, StoreFault};
 use std::alloc::AllocError;
-use workload_spec::Said;
+use workload_spec::{Said, StaleRead};
 
 /// The line of a begin.
 pub(crate) fn begun(answer: Result<u64, Busy>) -> Said
@@ -16,6 +18,30 @@ pub(crate) fn begun(answer: Result<u64, Busy>) -> Said
     match answer {
         Ok(number) => Said::At(number),
         Err(Busy) => Said::InTransaction,
+    }
+}
+
+/// The line of a commit.
+pub(crate) fn committed(answer: Result<Option<u64>, Stale>) -> Said
+    ensures { result ≡ committed_told answer }
+{
+    match answer {
+        Ok(number) => Said::Committed(number),
+        Err(Stale { read, number }) => Said::Stale {
+            read: stale(read),
+            number,
+        },
+    }
+}
+
+/// The words of a stale read.
+fn stale(read: Read) -> StaleRead
+    ensures { result ≡ stale_of read }
+{
+    match read {
+        Read::Key { table, key } => StaleRead::Key { table, key },
+        Read::Table { table } => StaleRead::Table { table },
+        Read::Range { table, low, high } => StaleRead::Range { table, low, high },
     }
 }
 

@@ -214,7 +214,7 @@ fn write_all<R: Wait>(
     if !session.busy() {
         return Err(Fail::from("no transaction"));
     }
-    store.commit(rt, session);
+    store.commit(rt, session).ok();
     Ok(())
 }
 

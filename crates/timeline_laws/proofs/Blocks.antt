@@ -341,7 +341,7 @@ module _ (tables : List TableDecl) (printed timeline : List Entry) (t : Timeline
   exports =
       by-transaction tables printed timeline t entry only cut (λ u. export_by u entry.command)
       (λ o at within. export-takes o at within entry.reply.who entry.command at refl refl cut.takes)
-      (λ u is_asked is. ap (λ (asked : Command). export_by u asked) is_asked)
+      (λ u checked is_asked is. ap (λ (asked : Command). export_by u asked) is_asked)
       (open_of entry.reply.who cut.machine) refl cut.change
 
   -- ---- upkeep

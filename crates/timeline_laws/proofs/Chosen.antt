@@ -1,5 +1,5 @@
 -- What a test leaves of lists, and whether something of what is left passes another test.
-use Rattle.std.proofs.Common.{◌≡◌, ℕ, ◌+◌, ◌-◌, ◌<◌, ◌≤◌, zero, suc, Bool, true, false, cond, ◌||◌, not, eqb, List, [], ◌∷◌, Option, None, Some, refl, sym, ap, ◌∙◌, subst, arith}
+use Rattle.std.proofs.Common.{◌≡◌, ℕ, ◌+◌, ◌<◌, ◌≤◌, zero, suc, Bool, true, false, cond, ◌||◌, eqb, List, [], ◌∷◌, Option, None, Some, refl, sym, ap, ◌∙◌, subst, arith}
 use Rattle.std.specs.Prelude.{fold}
 use Rattle.std.specs.Option.{option_map_or}
 use Rattle.std.specs.BTreeMap.{insert_entry}
@@ -13,9 +13,7 @@ use Rattle.isolation_spec.specs.declared.place.Place.{Place}
 use Rattle.isolation_spec.specs.Machine.{writes_place}
 use Rattle.isolation_laws.proofs.Rows.{place_cmp-total}
 use Rattle.workload_spec.specs.declared.reply.Who.{Who}
-use Rattle.workload_spec.specs.declared.reply.Said.{Said}
-use Rattle.workload_spec.specs.declared.reply.Said.TheVariants as said
-use Rattle.outcome_spec.specs.Entries.{Entry, is_same, before, shown_in, commit_in, is_end}
+use Rattle.outcome_spec.specs.Entries.{Entry, is_same, shown_in, commit_in, is_end}
 use Rattle.outcome_spec.specs.Runs.{Span, accepted_write, writes_in, commits_as}
 use Rattle.outcome_spec.specs.Conflicts.{has_write}
 use Rattle.timeline_spec.specs.Timeline.{Each}
@@ -23,8 +21,6 @@ use Rattle.timeline_laws.proofs.Tests.{or-left, or-right}
 use Rattle.timeline_laws.proofs.Order.{same-is, same-itself}
 use Rattle.timeline_laws.proofs.Spans.{EachSpan}
 use Rattle.timeline_laws.proofs.Writers.{writes-more}
-use Rattle.timeline_laws.proofs.Steps.{writes, commits, accepted}
-use Rattle.timeline_laws.proofs.Histories.{last}
 
 -- ---- numbers that pass a test
 

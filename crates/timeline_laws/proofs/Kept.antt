@@ -1,38 +1,50 @@
 -- The machine keeps rows of their tables where commands write such rows, and so finds and lists
 -- such rows.
-use Rattle.std.proofs.Common.{◌≡◌, ℕ, Bool, true, false, cond, List, [], ◌∷◌, ◌++◌, Option, None, Some, ℤ, refl, sym, ap, ◌∙◌, subst}
-use Rattle.std.specs.Prelude.{◌==◌, slice_get, filter, map, find}
+use Rattle.std.proofs.Common.{◌≡◌, ℕ, Bool, true, false, cond, ◌&&◌, ◌||◌, List, [], ◌∷◌, ◌++◌, Option, None, Some, ℤ, refl, sym, ap, ◌∙◌, subst}
+use Rattle.std.specs.Prelude.{◌==◌, slice_get, filter, map, find, is_some}
 use Rattle.std.specs.Cmp.{int_eq_equiv}
 use Rattle.std.specs.Option.{option_map_or}
+use Rattle.std.specs.List.{cons_option, list_any}
+use Rattle.std.proofs.lemmas.Bool.{and_parts}
 use Rattle.std.specs.Ordering.{int_eq}
 use Rattle.cell_model.specs.declared.cell.Cell.{Cell}
 use Rattle.cell_model.specs.declared.table.TableDecl.{TableDecl}
 use Rattle.cell_model.specs.Rows.{fits}
-use Rattle.isolation_spec.specs.Contents.{State, at_place, place_at, place_of, state_at}
-use Rattle.isolation_spec.specs.Machine.{IsolationMachine, Transaction, entered, opening, seen_rows, step, step_of, transaction_of}
+use Rattle.isolation_spec.specs.Contents.{State, WriteSet, at_place, place_at, place_of, state_at}
+use Rattle.isolation_spec.specs.Machine.{IsolationMachine, Transaction, commit, entered, opening, seen_rows, step, step_of, transaction_of}
+use Rattle.isolation_spec.specs.Checked.{step_with, stale_of}
+use Rattle.isolation_spec.specs.Reads.{ReadSet}
+use Rattle.isolation_spec.specs.declared.read.Read.{Read}
+use Rattle.isolation_spec.specs.declared.read.Read.TheVariants as read
+use Rattle.isolation_laws.proofs.Checked.{commit-stands, commit-refused, stale-open, stale-closed}
 use Rattle.isolation_spec.specs.Store.{Outcome, Answered, Freezing, Full, Memory, Allows}
 use Rattle.isolation_spec.specs.declared.command.Act.{Act}
 use Rattle.isolation_spec.specs.declared.command.Act.TheVariants as act
 use Rattle.isolation_spec.specs.declared.command.Answer.{Answer}
 use Rattle.isolation_spec.specs.declared.command.Answer.TheVariants as answer
 use Rattle.isolation_spec.specs.declared.place.Place.{Place}
-use Rattle.workload_spec.specs.Valid.{fits_table, is_command}
+use Rattle.workload_spec.specs.Valid.{fits_table, is_command, is_table_place, is_key_number}
 use Rattle.workload_spec.specs.declared.command.Command.{Command}
 use Rattle.workload_spec.specs.declared.command.Command.TheVariants as command
 use Rattle.workload_spec.specs.declared.reply.Who.{Who}
 use Rattle.workload_spec.specs.declared.reply.Who.TheVariants.{Session, Worker}
 use Rattle.workload_spec.specs.declared.reply.Said.{Said}
 use Rattle.workload_spec.specs.declared.reply.Said.TheVariants as said
-use Rattle.outcome_spec.specs.Entries.{Entry}
+use Rattle.outcome_spec.specs.Entries.{Entry, is_same, thread}
+use Rattle.outcome_spec.specs.Stale.{is_read, read_asked, read_told, reads_told, reads_after, shows_read}
 use Rattle.outcome_spec.specs.Runs.{write_of}
 use Rattle.outcome_spec.specs.Tables.{columns_at}
+use Rattle.timeline_spec.specs.Timeline.{stale_of as stale_named}
 use Rattle.timeline_spec.specs.Timeline.{Aside, Each, Runs, TakesAs, Tells, Timeline, request_of, said_of}
 use Rattle.timeline_laws.proofs.Cuts.{change-of}
-use Rattle.timeline_laws.proofs.Order.{Each-printed, Each-timeline}
-use Rattle.timeline_laws.proofs.Placed.{Written, AllWritten, MayBeWritten, Placed, all-append, found-at, contents-rise, insert-written, laid-placed, state-placed}
-use Rattle.timeline_laws.proofs.Stated.{RowsFit, GotFits}
+use Rattle.timeline_laws.proofs.Order.{Each-append, Each-filter, Each-second, Each-printed, Each-timeline}
+use Rattle.timeline_laws.proofs.Lasts.{one-among}
+use Rattle.timeline_laws.proofs.ReadSets.{ReadsAre, one_read}
+use Rattle.timeline_laws.proofs.Refused.{Refused, refused-is}
+use Rattle.timeline_laws.proofs.Placed.{Written, AllWritten, MayBeWritten, Placed, all-append, found-at, contents-rise, between-rise, insert-written, laid-placed, state-placed}
+use Rattle.timeline_laws.proofs.Stated.{RowsFit, GotFits, IsNamed, StaleFits, stale_table}
 use Rattle.timeline_laws.proofs.Steps.{Change, quiet, opens, writes, ends, commits, asks}
-use Rattle.timeline_laws.proofs.Walk.{Shown, shown-opening, shown-step}
+use Rattle.timeline_laws.proofs.Walk.{Shown, Stands, shown-opening, shown-step}
 
 module _ (tables : List TableDecl) where
   -- what the open transactions wrote
@@ -134,15 +146,15 @@ module _ (tables : List TableDecl) where
       (at.fit, ap (λ (k : ℤ). int_eq k key) at.key ∙ int_eq_equiv.refl key)
 
   -- the answer of the machine, or a refusal
-  outcome-fits : (asked : Command) (act : Act) (machine : IsolationMachine) (session : ℕ) (own : Answer) (told : Said) (after : IsolationMachine) → (step machine (asks session act)).0 ≡ own → RowsFit tables asked (said_of own)
+  outcome-fits : (reads : Option ReadSet) (asked : Command) (act : Act) (machine : IsolationMachine) (session : ℕ) (own : Answer) (told : Said) (after : IsolationMachine) → (step_with machine reads (asks session act)).0 ≡ own → RowsFit tables asked (said_of own)
       → ((t b g : ℕ) → RowsFit tables asked (said.Freezing t b g)) → RowsFit tables asked said.Full → RowsFit tables asked said.Memory
-      → (outcome : Outcome) → Tells outcome told → Allows machine (asks session act) outcome after → RowsFit tables asked told
-  outcome-fits asked act machine session own told after is fit f g m (Answered a) tells allows =
+      → (outcome : Outcome) → Tells outcome told → Allows machine reads (asks session act) outcome after → RowsFit tables asked told
+  outcome-fits reads asked act machine session own told after is fit f g m (Answered a) tells allows =
       let e : a ≡ own = sym (ap (λ (p : Answer × IsolationMachine). p.0) allows) ∙ is in
       subst (RowsFit tables asked) (sym (tells ∙ ap said_of e)) fit
-  outcome-fits asked act machine session own told after is fit f g m Freezing tells allows = subst (RowsFit tables asked) (sym tells.3) (f tells.0 tells.1 tells.2)
-  outcome-fits asked act machine session own told after is fit f g m Full tells allows = subst (RowsFit tables asked) (sym tells) g
-  outcome-fits asked act machine session own told after is fit f g m Memory tells allows = subst (RowsFit tables asked) (sym tells) m
+  outcome-fits reads asked act machine session own told after is fit f g m Freezing tells allows = subst (RowsFit tables asked) (sym tells.3) (f tells.0 tells.1 tells.2)
+  outcome-fits reads asked act machine session own told after is fit f g m Full tells allows = subst (RowsFit tables asked) (sym tells) g
+  outcome-fits reads asked act machine session own told after is fit f g m Memory tells allows = subst (RowsFit tables asked) (sym tells) m
 
   -- The machine's answer to a get fits the table and the key.
   get-fits : (machine : IsolationMachine) (session table : ℕ) (key : ℤ) → Kept machine → (found : Option Transaction) → transaction_of session machine ≡ found
@@ -156,40 +168,154 @@ module _ (tables : List TableDecl) where
   scan-fits machine session table k None at = tt
   scan-fits machine session table k (Some t) at = contents-rise tables table (seen_rows machine t) (seen-placed machine session t k at)
 
+  -- The machine's answer to a range has rows that fit the table.
+  range-fits : (machine : IsolationMachine) (session table : ℕ) (low high : ℤ) → Kept machine → (found : Option Transaction) → transaction_of session machine ≡ found
+      → RowsFit tables (command.Range table low high) (said_of (step_of machine (asks session (act.Range table low high)) found).0)
+  range-fits machine session table low high k None at = tt
+  range-fits machine session table low high k (Some t) at = between-rise tables table low high (seen_rows machine t) (seen-placed machine session t k at)
+
+  -- ---- what commits name
+
+  -- the tables that there are are named
+  abbrev pub AreNamed : Type 0
+  AreNamed = (table : ℕ) → is_table_place tables table ≡ true → IsNamed tables table
+
+  -- The table of a read.
+  abbrev table_of : Read → ℕ
+  table_of (read.Key table key) = table
+  table_of (read.Table table) = table
+  table_of (read.Range table low high) = table
+
+  -- What passes a test is there.
+  passes-there : (test : TableDecl → Bool) (found : Option TableDecl) → option_map_or test found false ≡ true → is_some found ≡ true
+  passes-there test None h = absurd (let never : ⊥ = cc in never)
+  passes-there test (Some decl) h = refl
+
+  -- What a valid command asks to read is of a table that there is.
+  asked-place : (asked : Command) (what : Read) → is_command tables asked ≡ true → read_asked asked ≡ Some what → is_table_place tables (table_of what) ≡ true
+  asked-place (command.Get table key) what valid is =
+      ap (λ (o : Option Read). is_table_place tables (option_map_or table_of o table)) (sym is) ∙ (and_parts (is_table_place tables table) (is_key_number key) valid).0
+  asked-place (command.Scan table) what valid is = ap (λ (o : Option Read). is_table_place tables (option_map_or table_of o table)) (sym is) ∙ valid
+  asked-place (command.Range table low high) what valid is =
+      ap (λ (o : Option Read). is_table_place tables (option_map_or table_of o table)) (sym is)
+      ∙ (and_parts (is_table_place tables table) (is_key_number low) (and_parts (is_table_place tables table && is_key_number low) (is_key_number high) valid).0).0
+  asked-place (command.Total table column low high) what valid is =
+      ap (λ (o : Option Read). is_table_place tables (option_map_or table_of o table)) (sym is) ∙ passes-there _ (slice_get tables table) valid
+  asked-place (command.Export table) what valid is = ap (λ (o : Option Read). is_table_place tables (option_map_or table_of o table)) (sym is) ∙ valid
+  asked-place _ what valid is = absurd (let never : ⊥ = cc in never)
+
+  -- So is what such a command and its reply tell that was read.
+  told-place : (asked : Command) (b : Bool) (what : Read) → is_command tables asked ≡ true → cond b (read_asked asked) None ≡ Some what → is_table_place tables (table_of what) ≡ true
+  told-place asked true what valid is = asked-place asked what valid is
+  told-place asked false what valid is = absurd (let never : ⊥ = cc in never)
+
+  -- A read among those that replies to valid commands tell is of a table that there is.
+  read-place : (what : Read) (entries : List Entry) → Each (λ entry. is_command tables entry.command ≡ true) entries → list_any (is_read what) (reads_told entries) ≡ true → is_table_place tables (table_of what) ≡ true
+  read-place what [] valid is = absurd (let never : ⊥ = cc in never)
+  read-place what (entry ∷ entries) valid is = by (read_told entry.command entry.reply.said) refl is (read-place what entries valid.1)
+    where
+      by : (told : Option Read) → read_told entry.command entry.reply.said ≡ told → list_any (is_read what) (cons_option told (reads_told entries)) ≡ true
+          → (list_any (is_read what) (reads_told entries) ≡ true → is_table_place tables (table_of what) ≡ true) → is_table_place tables (table_of what) ≡ true
+      by None at among later = later among
+      by (Some first) at among later = either (is_read what first) refl among
+        where
+          either : (b : Bool) → is_read what first ≡ b → (b || list_any (is_read what) (reads_told entries)) ≡ true → is_table_place tables (table_of what) ≡ true
+          either true same h = told-place entry.command (shows_read entry.reply.said) what valid.0 (at ∙ ap Some (sym (one_read what first same)))
+          either false same h = later h
+
+  -- A read that is printed is of the table of the read.
+  printed-table : (what : Read) → stale_table (stale_named what) ≡ table_of what
+  printed-table (read.Key table key) = refl
+  printed-table (read.Table table) = refl
+  printed-table (read.Range table low high) = refl
+
+  module _ (named : AreNamed) (front : List Entry) (machine : IsolationMachine) (shown : Shown front machine) (valid : Each (λ entry. is_command tables entry.command ≡ true) front) (session : ℕ) where
+    -- The read set of what the session has open, as its replies tell it.
+    abbrev its_reads : Option ReadSet
+    its_reads = reads_after (thread (Session session) front)
+
+    -- A commit that is refused names a read of a table that is named.
+    refused-fits : (t : Transaction) (stale : Read × ℕ) → transaction_of session machine ≡ Some t → Refused machine t its_reads stale → IsNamed tables (stale_table (stale_named stale.0))
+    refused-fits t stale at r =
+        let within = subst (Stands (Session session) (thread (Session session) front)) at (shown.stands (Session session)) in
+        let its = subst (λ (reads : Option ReadSet). ReadsAre reads within.replies) r.reads_are within.reads_are in
+        let among : list_any (is_read stale.0) (reads_told within.replies) ≡ true =
+        sym (its.1 stale.0) ∙ ap (list_any (is_read stale.0)) r.found.among ∙ one-among stale.0 r.found.front r.found.rest in
+        let mine = Each-second (λ entry. is_command tables entry.command ≡ true) within.ahead within.replies
+        (subst (Each (λ entry. is_command tables entry.command ≡ true)) within.split (Each-filter (λ entry. is_command tables entry.command ≡ true) (λ other. is_same other.reply.who (Session session)) front valid)) in
+        subst (IsNamed tables) (sym (printed-table stale.0)) (named (table_of stale.0) (read-place stale.0 within.replies mine among))
+
+    -- What a commit of some writes is told fits.
+    made-fits : (t : Transaction) (own : WriteSet) → StaleFits tables (said_of (commit machine t own).0)
+    made-fits t [] = tt
+    made-fits t (first ∷ rest) = tt
+
+    -- What the machine's own commit is told fits.
+    stands-fits : (found : Option Transaction) → StaleFits tables (said_of (step_of machine (asks session act.Commit) found).0)
+    stands-fits None = tt
+    stands-fits (Some t) = made-fits t t.own
+
+    -- What a commit is told fits, stale or not.
+    commit-fits : (stale : Option (Read × ℕ)) (found : Option Transaction) → stale_of machine its_reads session act.Commit ≡ stale → transaction_of session machine ≡ found
+        → StaleFits tables (said_of (step_with machine its_reads (asks session act.Commit)).0)
+    commit-fits None found is at =
+        subst (λ (p : Answer × IsolationMachine). StaleFits tables (said_of p.0)) (sym (commit-stands machine its_reads session is)) (stands-fits (transaction_of session machine))
+    commit-fits (Some stale) None is at = absurd (let e : None ≡ Some stale = sym (stale-closed machine its_reads session at) ∙ is in let never : ⊥ = cc in never)
+    commit-fits (Some stale) (Some t) is at =
+        subst (λ (p : Answer × IsolationMachine). StaleFits tables (said_of p.0)) (sym (commit-refused machine its_reads session stale is))
+        (refused-fits t stale at (refused-is machine t t.own its_reads stale refl (sym (stale-open machine its_reads session t at) ∙ is)))
+
   -- A reply that comes about tells rows that fit what its command asks.
-  takes-fits : (front : List Entry) (machine : IsolationMachine) (entry : Entry) (after : IsolationMachine) (who : Who) (asked : Command) → entry.command ≡ asked → Kept machine
+  takes-fits : AreNamed → (front : List Entry) (machine : IsolationMachine) (entry : Entry) (after : IsolationMachine) (who : Who) (asked : Command) → Shown front machine
+      → Each (λ entry. is_command tables entry.command ≡ true) front → entry.reply.who ≡ who → entry.command ≡ asked → Kept machine
       → TakesAs tables front machine entry after (request_of who asked) → RowsFit tables asked entry.reply.said
-  takes-fits front machine entry after (Session session) (command.Get table key) is k h =
-      outcome-fits (command.Get table key) (act.Get table key) machine session (step machine (asks session (act.Get table key))).0 entry.reply.said after refl
+  takes-fits named front machine entry after (Session session) (command.Get table key) shown valid is_who is k h =
+      outcome-fits (reads_after (thread entry.reply.who front)) (command.Get table key) (act.Get table key) machine session (step machine (asks session (act.Get table key))).0 entry.reply.said after refl
       (get-fits machine session table key k (transaction_of session machine) refl) (λ t b g. tt) tt tt h.outcome h.tells h.allows
-  takes-fits front machine entry after (Session session) (command.Scan table) is k h =
-      outcome-fits (command.Scan table) (act.Scan table) machine session (step machine (asks session (act.Scan table))).0 entry.reply.said after refl
+  takes-fits named front machine entry after (Session session) (command.Scan table) shown valid is_who is k h =
+      outcome-fits (reads_after (thread entry.reply.who front)) (command.Scan table) (act.Scan table) machine session (step machine (asks session (act.Scan table))).0 entry.reply.said after refl
       (scan-fits machine session table k (transaction_of session machine) refl) (λ t b g. tt) tt tt h.outcome h.tells h.allows
-  takes-fits front machine entry after (Worker worker) (command.Get table key) is k h =
+  takes-fits named front machine entry after (Session session) (command.Range table low high) shown valid is_who is k h =
+      outcome-fits (reads_after (thread entry.reply.who front)) (command.Range table low high) (act.Range table low high) machine session (step machine (asks session (act.Range table low high))).0 entry.reply.said after refl
+      (range-fits machine session table low high k (transaction_of session machine) refl) (λ t b g. tt) tt tt h.outcome h.tells h.allows
+  takes-fits named front machine entry after (Session session) command.Commit shown valid is_who is k h =
+      let reads : reads_after (thread entry.reply.who front) ≡ reads_after (thread (Session session) front) = ap (λ (w : Who). reads_after (thread w front)) is_who in
+      let its = reads_after (thread (Session session) front) in
+      outcome-fits its command.Commit act.Commit machine session (step_with machine its (asks session act.Commit)).0 entry.reply.said after refl
+      (commit-fits named front machine shown valid session (stale_of machine its session act.Commit) (transaction_of session machine) refl refl)
+      (λ t b g. tt) tt tt h.outcome h.tells (subst (λ (r : Option ReadSet). Allows machine r (asks session act.Commit) h.outcome after) reads h.allows)
+  takes-fits named front machine entry after (Worker worker) (command.Get table key) shown valid is_who is k h =
       let aside : Aside tables front machine entry.reply.who (command.Get table key) entry.reply.said = subst (λ (c : Command). Aside tables front machine entry.reply.who c entry.reply.said) is h.0 in
       absurd (let e : false ≡ true = aside.0 in let never : ⊥ = cc in never)
-  takes-fits front machine entry after (Worker worker) (command.Scan table) is k h =
+  takes-fits named front machine entry after (Worker worker) (command.Scan table) shown valid is_who is k h =
       let aside : Aside tables front machine entry.reply.who (command.Scan table) entry.reply.said = subst (λ (c : Command). Aside tables front machine entry.reply.who c entry.reply.said) is h.0 in
       absurd (let e : false ≡ true = aside.0 in let never : ⊥ = cc in never)
-  takes-fits front machine entry after who _ is k h = tt
+  takes-fits named front machine entry after (Worker worker) (command.Range table low high) shown valid is_who is k h =
+      let aside : Aside tables front machine entry.reply.who (command.Range table low high) entry.reply.said = subst (λ (c : Command). Aside tables front machine entry.reply.who c entry.reply.said) is h.0 in
+      absurd (let e : false ≡ true = aside.0 in let never : ⊥ = cc in never)
+  takes-fits named front machine entry after (Worker worker) command.Commit shown valid is_who is k h =
+      let aside : Aside tables front machine entry.reply.who command.Commit entry.reply.said = subst (λ (c : Command). Aside tables front machine entry.reply.who c entry.reply.said) is h.0 in
+      absurd (let e : false ≡ true = aside.0 in let never : ⊥ = cc in never)
+  takes-fits named front machine entry after who _ shown valid is_who is k h = tt
 
   -- ---- along a timeline
 
   -- Replies that come about one behind the other tell rows that fit their commands.
-  rows-fit : (front : List Entry) (machine : IsolationMachine) (rest : List Entry) → Shown front machine → Kept machine → Each (λ entry. is_command tables entry.command ≡ true) rest
+  rows-fit : AreNamed → (front : List Entry) (machine : IsolationMachine) (rest : List Entry) → Shown front machine → Kept machine
+      → Each (λ entry. is_command tables entry.command ≡ true) front → Each (λ entry. is_command tables entry.command ≡ true) rest
       → Runs tables front machine rest → Each (λ entry. RowsFit tables entry.command entry.reply.said) rest
-  rows-fit front machine [] shown k valid runs = tt
-  rows-fit front machine (entry ∷ rest) shown k valid runs =
+  rows-fit named front machine [] shown k before valid runs = tt
+  rows-fit named front machine (entry ∷ rest) shown k before valid runs =
       let change = change-of tables front machine runs.0 entry shown.sane runs.1 in (
-        takes-fits front machine entry runs.0 entry.reply.who entry.command refl k runs.1,
-        rows-fit (front ++ entry ∷ []) runs.0 rest (shown-step front machine runs.0 entry shown change)
-            (kept-change entry.reply.who entry.command entry.reply.said machine runs.0 valid.0 k change) valid.1 runs.3,
+        takes-fits named front machine entry runs.0 entry.reply.who entry.command shown before refl refl k runs.1,
+        rows-fit named (front ++ entry ∷ []) runs.0 rest (shown-step front machine runs.0 entry shown change)
+            (kept-change entry.reply.who entry.command entry.reply.said machine runs.0 valid.0 k change) (Each-append (λ entry. is_command tables entry.command ≡ true) front (entry ∷ []) before (valid.0, tt)) valid.1 runs.3,
       )
 
   -- Rows that are found and scanned in a timeline are rows of their tables, where its commands are.
-  pub printed-rows-fit : (printed timeline : List Entry) → Timeline tables printed timeline → Each (λ entry. is_command tables entry.command ≡ true) printed
+  pub printed-rows-fit : AreNamed → (printed timeline : List Entry) → Timeline tables printed timeline → Each (λ entry. is_command tables entry.command ≡ true) printed
       → Each (λ entry. RowsFit tables entry.command entry.reply.said) printed
-  printed-rows-fit printed timeline t valid =
+  printed-rows-fit named printed timeline t valid =
       Each-printed (λ entry. RowsFit tables entry.command entry.reply.said) printed timeline t.threads
-      (rows-fit [] opening timeline shown-opening (record { history = tt; own = tt })
+      (rows-fit named [] opening timeline shown-opening (record { history = tt; own = tt }) tt
       (Each-timeline (λ entry. is_command tables entry.command ≡ true) printed timeline t.threads valid) t.runs)

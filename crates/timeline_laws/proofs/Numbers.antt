@@ -90,7 +90,7 @@ unwritten [] h = refl
 unwritten (entry ∷ entries) h = unwritten-step (accepted_write entry) (list_any (λ other. is_some (accepted_write other)) entries) (filter_map accepted_write entries) h (unwritten entries)
 
 -- Replies whose write set is not empty have an accepted write among them.
-wrote-by : (entries : List Entry) (b : Bool) → list_any (λ entry. is_some (accepted_write entry)) entries ≡ b → (first : Place × Option (List Cell)) (rest : WriteSet) → writes_in entries ≡ first ∷ rest
+pub wrote-by : (entries : List Entry) (b : Bool) → list_any (λ entry. is_some (accepted_write entry)) entries ≡ b → (first : Place × Option (List Cell)) (rest : WriteSet) → writes_in entries ≡ first ∷ rest
     → list_any (λ entry. is_some (accepted_write entry)) entries ≡ true
 wrote-by entries true is first rest h = is
 wrote-by entries false is first rest h =

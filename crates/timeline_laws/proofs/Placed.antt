@@ -10,12 +10,14 @@ use Rattle.std.specs.Option.{option_map_or}
 use Rattle.std.specs.Ordering.{int_cmp, nat_cmp, match_ordering, ordering_then, ordering_reverse}
 use Rattle.std.specs.declared.cmp.Ordering.{Ordering}
 use Rattle.std.specs.declared.cmp.Ordering.TheVariants.{Less, Equal, Greater}
-use Rattle.std.proofs.lemmas.Bool.{eqb-true}
+use Rattle.std.proofs.lemmas.Bool.{eqb-true, and_parts}
 use Rattle.cell_model.specs.declared.cell.Cell.{Cell}
 use Rattle.cell_model.specs.declared.table.TableDecl.{TableDecl}
 use Rattle.cell_model.specs.Rows.{fits}
-use Rattle.isolation_spec.specs.Contents.{place_cmp, is_place, at_place, State, WriteSet, History, with_write, laid_over, state_at, contents_of, key_of}
+use Rattle.isolation_spec.specs.Contents.{place_cmp, is_place, at_place, State, WriteSet, History, with_write, laid_over, state_at, contents_of, contents_between, is_in_range, key_of}
 use Rattle.isolation_spec.specs.declared.place.Place.{Place}
+use Rattle.cell_model.specs.Values.{is_between}
+use Rattle.isolation_laws.proofs.Maps.{chosen}
 use Rattle.isolation_laws.proofs.Rows.{place_cmp-total}
 use Rattle.outcome_spec.specs.Tables.{columns_at}
 use Rattle.timeline_laws.proofs.Writers.{is-equal}
@@ -208,23 +210,30 @@ module _ (tables : List TableDecl) where
   above-key table (Some place) entry rows is key h =
       ap (int_lt place.key) key ∙ key-less place entry.0 (h.0 ∙ sym is) h.1.0
 
-  -- One more row, of the table or not, keeps that the table's rows rise.
-  contents-step : (table : ℕ) (below : Option Place) (entry : Place × List Cell) (rows : State) (b : Bool) → (entry.0.table == table) ≡ b → Placed (entry ∷ rows) → AboveAll table below (entry ∷ rows)
-      → ((low : Option Place) → AboveAll table low rows → RowsRise (columns_at tables table) (key_below low) (contents_of table rows))
-      → RowsRise (columns_at tables table) (key_below below) (cons_option (cond b (Some entry.1) None) (contents_of table rows))
-  contents-step table below entry rows true is h above rest =
-      let of : entry.0.table ≡ table = eqb-true entry.0.table table is in (
-        subst (λ (t : ℕ). fits (columns_at tables t) entry.1 ≡ true) of h.0.fit,
-        above-key table below entry rows of h.0.key above,
-        subst (λ (k : ℤ). RowsRise (columns_at tables table) (Some k) (contents_of table rows)) (sym h.0.key) (rest (Some entry.0) (of, h.1)),
-      )
-  contents-step table below entry rows false is h above rest = rest below (above-rest table below entry rows above)
+  module _ (table : ℕ) (test : Place → Bool) (of : (place : Place) → test place ≡ true → place.table ≡ table) where
+    -- One more row, chosen or not, keeps that the chosen rows rise.
+    chosen-step : (below : Option Place) (entry : Place × List Cell) (rows : State) (b : Bool) → test entry.0 ≡ b → Placed (entry ∷ rows) → AboveAll table below (entry ∷ rows)
+        → ((low : Option Place) → AboveAll table low rows → RowsRise (columns_at tables table) (key_below low) (chosen test rows))
+        → RowsRise (columns_at tables table) (key_below below) (cons_option (cond b (Some entry.1) None) (chosen test rows))
+    chosen-step below entry rows true is h above rest =
+        let its : entry.0.table ≡ table = of entry.0 is in (
+          subst (λ (t : ℕ). fits (columns_at tables t) entry.1 ≡ true) its h.0.fit,
+          above-key table below entry rows its h.0.key above,
+          subst (λ (k : ℤ). RowsRise (columns_at tables table) (Some k) (chosen test rows)) (sym h.0.key) (rest (Some entry.0) (its, h.1)),
+        )
+    chosen-step below entry rows false is h above rest = rest below (above-rest table below entry rows above)
 
-  -- The rows of a table rise above the key of a place below all of them.
-  contents-above : (table : ℕ) (rows : State) → Placed rows → (below : Option Place) → AboveAll table below rows → RowsRise (columns_at tables table) (key_below below) (contents_of table rows)
-  contents-above table [] h below above = tt
-  contents-above table (entry ∷ rows) h below above = contents-step table below entry rows (entry.0.table == table) refl h above (contents-above table rows h.2)
+    -- The chosen rows rise above the key of a place below all of them.
+    chosen-above : (rows : State) → Placed rows → (below : Option Place) → AboveAll table below rows → RowsRise (columns_at tables table) (key_below below) (chosen test rows)
+    chosen-above [] h below above = tt
+    chosen-above (entry ∷ rows) h below above = chosen-step below entry rows (test entry.0) refl h above (chosen-above rows h.2)
 
   -- The contents of a table are rows of it, with keys that rise.
   pub contents-rise : (table : ℕ) (rows : State) → Placed rows → RowsRise (columns_at tables table) None (contents_of table rows)
-  contents-rise table rows h = contents-above table rows h None tt
+  contents-rise table rows h = chosen-above table (λ place. place.table == table) (λ place is. eqb-true place.table table is) rows h None tt
+
+  -- So are those between two keys.
+  pub between-rise : (table : ℕ) (low high : ℤ) (rows : State) → Placed rows → RowsRise (columns_at tables table) None (contents_between table low high rows)
+  between-rise table low high rows h =
+      chosen-above table (is_in_range table low high)
+      (λ place is. eqb-true place.table table (and_parts (place.table == table) (is_between low high place.key) is).0) rows h None tt

@@ -1,37 +1,39 @@
 -- Each reply that may stand is read back where its command's is due.
-use Rattle.std.proofs.Common.{◌≡◌, ℕ, ◌^◌, ◌<◌, Bool, true, false, cond, List, [], ◌∷◌, ◌++◌, length, take, drop, map, Option, None, Some, refl, sym, ap, ◌∙◌, subst, arith, inl, inr, ℤ, int_lt}
-use Rattle.std.specs.Prelude.{bytes_eq, decimal, codes, ◌==◌, option_and_then}
+use Rattle.std.proofs.Common.{◌≡◌, ℕ, ◌-◌, ◌^◌, ◌<◌, nat_lt, Bool, true, false, cond, List, [], ◌∷◌, ◌++◌, length, take, drop, map, Option, None, Some, refl, sym, ap, ◌∙◌, subst, arith, append_assoc, inl, inr, ℤ, pos, negsuc, int_lt}
+use Rattle.std.specs.Prelude.{bytes_eq, decimal, codes, ◌==◌, option_and_then, option_map}
 use Rattle.std.specs.Fmt.{signed_decimal}
 use Rattle.std.specs.List.{list_all}
 use Rattle.std.specs.Ordering.{int_eq}
-use Rattle.std.proofs.lemmas.Bool.{ne_eqb}
+use Rattle.std.proofs.lemmas.Bool.{and_parts, ltb-true, ne_eqb}
 use Rattle.std.specs.Option.{option_map_or}
 use Rattle.cell_model.specs.declared.cell.Cell.{Cell}
 use Rattle.cell_model.specs.declared.column.Column.{Column}
 use Rattle.cell_model.specs.declared.kind.Kind.TheVariants as kind
 use Rattle.cell_model.specs.declared.table.TableDecl.{TableDecl}
 use Rattle.cell_model.specs.Rows.{fits}
-use Rattle.cell_model.specs.Values.{is_integer_of}
+use Rattle.cell_model.specs.Values.{is_between, is_integer_of}
 use Rattle.isolation_spec.specs.Contents.{key_of}
 use Rattle.workload_spec.specs.declared.command.Command.{Command}
 use Rattle.workload_spec.specs.declared.command.Command.TheVariants as command
 use Rattle.workload_spec.specs.declared.reply.Said.{Said}
 use Rattle.workload_spec.specs.declared.reply.Said.TheVariants as said
+use Rattle.workload_spec.specs.declared.reply.StaleRead.{StaleRead}
+use Rattle.workload_spec.specs.declared.reply.StaleRead.TheVariants as stale
 use Rattle.workload_spec.specs.declared.reply.SealCause.TheVariants.{Phase, Head, Empty, Gaps, Versions, Hot, Last}
 use Rattle.workload_spec.specs.ReplyText.{said_words, row_line, lines_behind}
 use Rattle.workload_spec.specs.ScriptText.{name_of_table}
-use Rattle.workload_spec.specs.Words.{cell_words}
-use Rattle.outcome_spec.specs.Reading.{row_of, row_at, rows_above, u32_at, u64_at, integer_at}
+use Rattle.workload_spec.specs.Words.{cell_words, spaced}
+use Rattle.outcome_spec.specs.Reading.{words_in, word_at, row_of, row_at, rows_above, u32_at, u64_at, tagged_u64_at, integer_at}
 use Rattle.outcome_spec.specs.Tables.{columns_at}
-use Rattle.outcome_spec.specs.Forms.{is_upkeep, dirty_replies, change_replies, replies_within, replies_without}
+use Rattle.outcome_spec.specs.Forms.{is_upkeep, dirty_replies, change_replies, stale_reply, stale_replies, key_at, table_at, key_named, table_named, range_named, replies_within, replies_without}
 use Rattle.workload_laws.proofs.Apart.{AreWords, is_plain, is_whole, words_whole}
-use Rattle.workload_laws.proofs.Numbers.{Begins, decimal_begins}
+use Rattle.workload_laws.proofs.Numbers.{Begins, decimal_begins, other_bytes}
 use Rattle.std.proofs.lemmas.Slice.Eq.{bytes_eq-Decides}
-use Rattle.timeline_spec.specs.Forms.{IsReplyWithin, IsBeginReply, IsChangeReply, IsInsertReply, IsGetReply, IsScanReply, IsCommitReply, IsExportReply, IsObserveReply, IsPruneReply, IsCompactReply, IsSealReply, IsGatherReply}
+use Rattle.timeline_spec.specs.Forms.{IsReplyWithin, IsBeginReply, IsChangeReply, IsInsertReply, IsGetReply, IsScanReply, IsTotalReply, IsStaleRead, IsCommitReply, IsExportReply, IsObserveReply, IsPruneReply, IsCompactReply, IsSealReply, IsGatherReply}
 use Rattle.timeline_laws.proofs.ReadLines.{words_of_line}
 use Rattle.timeline_laws.proofs.Cells.{row_back}
-use Rattle.timeline_laws.proofs.Stated.{RowsRise, GotFits, ScannedFits, RowsFit, IsReply}
-use Rattle.timeline_laws.proofs.ReadNumbers.{plain_decimal, plain_signed, u64_read, u32_read, key_read}
+use Rattle.timeline_laws.proofs.Stated.{RowsRise, GotFits, ScannedFits, IsNamed, stale_table, StaleFits, RowsFit, IsReply}
+use Rattle.timeline_laws.proofs.ReadNumbers.{is_digit_byte, digits_signed, plain_decimal, plain_signed, u64_read, u32_read, key_read, sum_read}
 use Rattle.timeline_laws.proofs.Lines.{a-word, AreUnbroken, ended, IsSaid, tail_of, Picks, replies_at, IsRead}
 
 -- each of the words is of plain bytes
@@ -47,6 +49,10 @@ plain-words (word ∷ words) h = (a-word word h.0, plain-words words h.1)
 -- what is said in plain words
 plainly : (tables : List TableDecl) (told : Said) (first : List ℕ) (others : List (List ℕ)) → said_words tables told ≡ first ∷ others → ArePlain (first ∷ others) → lines_behind told ≡ [] → IsSaid tables told
 plainly tables told first others words plain one = record { first = first; others = others; words = words; read = plain-words (first ∷ others) plain; behind = subst AreUnbroken (sym one) tt }
+
+-- Lists of four words and of six are not one.
+fewer-words : (a b : List (List ℕ)) → length a ≡ 4 → length b ≡ 6 → a ≡ b → ⊥
+fewer-words a b four six same = let e : length a ≡ length b = ap length same in omega (arith, four, six, e)
 
 -- a row that is read, and is above, goes before the others
 row-chosen : (o : Option (List Cell)) (row : List Cell) (test : List Cell → Bool) (next : List Cell → List (List Cell)) (more : List (List Cell)) → o ≡ Some row → test row ≡ true → next row ≡ more
@@ -148,6 +154,22 @@ module _ (tables : List TableDecl) (names : NamesPlain tables) where
       plainly tables (said.Exported n r b f) (codes "export") (decimal n ∷ codes "rows" ∷ decimal r ∷ codes "batches" ∷ decimal b ∷ codes "frozen" ∷ decimal f ∷ []) refl
       (refl, (plain_decimal n, (refl, (plain_decimal r, (refl, (plain_decimal b, (refl, (plain_decimal f, tt)))))))) refl
 
+  -- The line of a total is of words.
+  total-said : (count : ℕ) (sum : ℤ) → IsSaid tables (said.Totalled count sum)
+  total-said count sum = plainly tables (said.Totalled count sum) (codes "total") (decimal count ∷ signed_decimal sum ∷ []) refl (refl, (plain_decimal count, (plain_signed sum, tt))) refl
+
+  -- The line of a stale commit is of words.
+  stale-said : (what : StaleRead) (n : ℕ) → IsSaid tables (said.Stale what n)
+  stale-said (stale.Key table key) n =
+      plainly tables (said.Stale (stale.Key table key) n) (codes "stale") (name_of_table tables table ∷ signed_decimal key ∷ (codes "#" ++ decimal n) ∷ []) refl
+      (refl, (names table, (plain_signed key, (plain_decimal n, tt)))) refl
+  stale-said (stale.Table table) n =
+      plainly tables (said.Stale (stale.Table table) n) (codes "stale") (codes "table" ∷ name_of_table tables table ∷ (codes "#" ++ decimal n) ∷ []) refl
+      (refl, (refl, (names table, (plain_decimal n, tt)))) refl
+  stale-said (stale.Range table low high) n =
+      plainly tables (said.Stale (stale.Range table low high) n) (codes "stale") (codes "range" ∷ name_of_table tables table ∷ signed_decimal low ∷ signed_decimal high ∷ (codes "#" ++ decimal n) ∷ []) refl
+      (refl, (refl, (names table, (plain_signed low, (plain_signed high, (plain_decimal n, tt)))))) refl
+
   -- The line of an export refused for an own write is of words.
   dirty-said : (key : ℤ) → IsSaid tables (said.Dirty key)
   dirty-said key = plainly tables (said.Dirty key) (codes "dirty") (signed_decimal key ∷ []) refl (refl, (plain_signed key, tt)) refl
@@ -155,9 +177,9 @@ module _ (tables : List TableDecl) (names : NamesPlain tables) where
   -- ---- a transaction's begin and end
 
   -- A reply to a begin is read back where no transaction is open.
-  begin-read : (told : Said) → IsBeginReply told → IsRead tables false command.Begin told
-  begin-read (said.At n) small = record { is_said = at-said n; picks = λ rest. inl (ap said.At (u64_read n small)) }
-  begin-read _ h = absurd h
+  begin-read : (checked : Bool) (told : Said) → IsBeginReply told → IsRead tables false (command.Begin checked) told
+  begin-read checked (said.At n) small = record { is_said = at-said n; picks = λ rest. inl (ap said.At (u64_read n small)) }
+  begin-read checked _ h = absurd h
 
   -- A reply that there is no transaction is read back where it alone is due.
   without-read : (asked : Command) (told : Said) → ((words behind : List (List ℕ)) → replies_at false tables words behind asked ≡ said.NoTransaction ∷ []) → told ≡ said.NoTransaction → IsRead tables false asked told
@@ -170,15 +192,119 @@ module _ (tables : List TableDecl) (names : NamesPlain tables) where
   no-dash : (word : List ℕ) → Begins word → bytes_eq (codes "committed -\n") (codes "committed " ++ (word ++ 10 ∷ [])) ≡ false
   no-dash word first = let other : (45 == first.first) ≡ false = ne_eqb 45 first.first (λ e. omega (arith, e, first.least)) in rw first.is (rw other refl)
 
-  -- A reply to a commit is read back in a transaction.
-  commit-read : (told : Said) → IsCommitReply told → IsRead tables true command.Commit told
+  -- ---- stale commits
+
+  -- The words of what is said are read from its line.
+  tail-words : (told : Said) → IsSaid tables told → words_in (tail_of tables told) ≡ said_words tables told
   unfolding tail_of
-  commit-read (said.Committed None) h = record { is_said = nothing-said; picks = λ rest. inl refl }
-  commit-read (said.Committed (Some n)) small = record {
+  tail-words told h = ap (λ (words : List (List ℕ)). words_in (spaced words ++ 10 ∷ [])) h.words ∙ words_of_line h.first h.others h.read ∙ sym h.words
+
+  -- What is said in other words has another line.
+  words-apart : (other told : Said) → IsSaid tables other → IsSaid tables told → (said_words tables other ≡ said_words tables told → ⊥) → bytes_eq (tail_of tables other) (tail_of tables told) ≡ false
+  words-apart other told h k apart =
+      other_bytes (tail_of tables other) (tail_of tables told) (λ same. apart (sym (tail-words other h) ∙ ap words_in same ∙ tail-words told k))
+
+  -- A read that may be named, of another line, is passed over.
+  passed-over : (told : Said) (words : List (List ℕ)) (at : ℕ) (what : Option StaleRead) (rest : List Said) → IsSaid tables told
+      → ((its : StaleRead) → what ≡ Some its → said_words tables (said.Stale its (tagged_u64_at words at)) ≡ said_words tables told → ⊥)
+      → Picks tables told rest → Picks tables told (stale_reply words at what ++ rest)
+  passed-over told words at None rest h apart picks = picks
+  passed-over told words at (Some its) rest h apart picks =
+      let other = stale-said its (tagged_u64_at words at) in
+      inr (other, refl, words-apart (said.Stale its (tagged_u64_at words at)) told other h (apart its refl), picks)
+
+  -- What is named as a key is a key.
+  key-named : (table : Option ℕ) (key : Option ℤ) (its : StaleRead) → option_and_then (λ t. option_map (λ k. stale.Key t k) key) table ≡ Some its → (t : ℕ) × (k : ℤ) × (its ≡ stale.Key t k)
+  key-named None key its is = absurd (let never : ⊥ = cc in never)
+  key-named (Some t) None its is = absurd (let never : ⊥ = cc in never)
+  key-named (Some t) (Some k) its is = (t, k, (let e : its ≡ stale.Key t k = cc in e))
+
+  -- What is named as a table is one.
+  table-named : (table : Option ℕ) (its : StaleRead) → option_map (λ t. stale.Table t) table ≡ Some its → (t : ℕ) × (its ≡ stale.Table t)
+  table-named None its is = absurd (let never : ⊥ = cc in never)
+  table-named (Some t) its is = (t, (let e : its ≡ stale.Table t = cc in e))
+
+  -- The word at a place of two equal lists is one.
+  same-word : (at : ℕ) (a b : List (List ℕ)) → a ≡ b → word_at a at ≡ word_at b at
+  same-word at a b e = ap (λ (words : List (List ℕ)). word_at words at) e
+
+  -- No number is spelled as a name is.
+  number-name : (table : ℕ) (key : ℤ) → IsNamed tables table → signed_decimal key ≡ name_of_table tables table → ⊥
+  number-name table key named e =
+      let digits : list_all is_digit_byte (named.first ∷ named.rest) ≡ true = subst (λ (word : List ℕ). list_all is_digit_byte word ≡ true) (e ∙ named.is) (digits_signed key) in
+      let first = and_parts (is_digit_byte named.first) (list_all is_digit_byte named.rest) digits in
+      let low : named.first < 58 = let e : named.first < 58 = ltb-true named.first 58 (and_parts (nat_lt 34 named.first) (nat_lt named.first 58) first.0).1 in e in
+      omega (arith, low, named.letter)
+
+  -- A key that is read back is one of 64 bits.
+  key-by : (back key : ℤ) → back ≡ key → is_integer_of kind.I64 key ≡ true → cond (is_integer_of kind.I64 back) (Some back) None ≡ Some key
+  key-by back key e small = subst (λ (k : ℤ). cond (is_integer_of kind.I64 k) (Some k) None ≡ Some key) (sym e) (rw small refl)
+
+  -- A stale commit is picked among those that its line may tell.
+  stale-picks : (what : StaleRead) (n : ℕ) → IsStaleRead what → n < 2 ^ 64 → IsNamed tables (stale_table what) → Picks tables (said.Stale what n) (stale_replies tables (said_words tables (said.Stale what n)))
+  stale-picks (stale.Key table key) n fits small named =
+      let words = said_words tables (said.Stale (stale.Key table key) n) in
+      let is : key_named tables words ≡ Some (stale.Key table key) =
+      ap (option_and_then (λ t. option_map (λ k. stale.Key t k) (key_at words 2))) named.at ∙ ap (option_map (λ k. stale.Key table k)) (key-by (integer_at words 2) key (key_read key fits) fits) in
+      subst (λ (o : Option StaleRead). Picks tables (said.Stale (stale.Key table key) n) (stale_reply words 3 o ++ stale_reply words 3 (table_named tables words) ++ stale_reply words 5 (range_named tables words))) (sym is)
+      (inl (ap (said.Stale (stale.Key table key)) (u64_read n small)))
+  stale-picks (stale.Table table) n fits small named =
+      let told = said.Stale (stale.Table table) n in
+      let words = said_words tables told in
+      let first = stale_reply words 3 (key_named tables words) in
+      let second = stale_reply words 3 (table_named tables words) in
+      let third = stale_reply words 5 (range_named tables words) in
+      let is : table_named tables words ≡ Some (stale.Table table) = ap (option_map (λ t. stale.Table t)) named.at in
+      subst (Picks tables told) (sym (append_assoc first second third))
+      (passed-over told words 3 (key_named tables words) (second ++ third) (stale-said (stale.Table table) n)
+      (λ its found same. let key = key-named (table_at tables words 1) (key_at words 2) its found in
+      number-name table key.1 named (same-word 2 (said_words tables (said.Stale (stale.Key key.0 key.1) (tagged_u64_at words 3))) words
+      (ap (λ (other : StaleRead). said_words tables (said.Stale other (tagged_u64_at words 3))) (sym key.2) ∙ same)))
+      (subst (λ (o : Option StaleRead). Picks tables told (stale_reply words 3 o ++ third)) (sym is) (inl (ap (said.Stale (stale.Table table)) (u64_read n small)))))
+  stale-picks (stale.Range table low high) n fits small named =
+      let told = said.Stale (stale.Range table low high) n in
+      let words = said_words tables told in
+      let first = stale_reply words 3 (key_named tables words) in
+      let second = stale_reply words 3 (table_named tables words) in
+      let third = stale_reply words 5 (range_named tables words) in
+      let is : range_named tables words ≡ Some (stale.Range table low high) =
+      ap (option_and_then (λ t. option_and_then (λ l. option_map (λ h. stale.Range t l h) (key_at words 4)) (key_at words 3))) named.at
+      ∙ ap (option_and_then (λ l. option_map (λ h. stale.Range table l h) (key_at words 4))) (key-by (integer_at words 3) low (key_read low fits.0) fits.0)
+      ∙ ap (option_map (λ h. stale.Range table low h)) (key-by (integer_at words 4) high (key_read high fits.1) fits.1) in
+      subst (Picks tables told) (sym (append_assoc first second third))
+      (passed-over told words 3 (key_named tables words) (second ++ third) (stale-said (stale.Range table low high) n)
+      (λ its found same. let key = key-named (table_at tables words 1) (key_at words 2) its found in
+      fewer-words (said_words tables (said.Stale (stale.Key key.0 key.1) (tagged_u64_at words 3))) words refl refl
+      (ap (λ (other : StaleRead). said_words tables (said.Stale other (tagged_u64_at words 3))) (sym key.2) ∙ same))
+      (passed-over told words 3 (table_named tables words) third (stale-said (stale.Range table low high) n)
+      (λ its found same. let one = table-named (table_at tables words 2) its found in
+      fewer-words (said_words tables (said.Stale (stale.Table one.0) (tagged_u64_at words 3))) words refl refl
+      (ap (λ (other : StaleRead). said_words tables (said.Stale other (tagged_u64_at words 3))) (sym one.1) ∙ same))
+      (subst (λ (o : Option StaleRead). Picks tables told (stale_reply words 5 o)) (sym is) (inl (ap (said.Stale (stale.Range table low high)) (u64_read n small))))))
+
+  -- A stale commit is read back in a transaction.
+  stale-read : (what : StaleRead) (n : ℕ) → IsStaleRead what × (n < 2 ^ 64) → IsNamed tables (stale_table what) → IsRead tables true command.Commit (said.Stale what n)
+  unfolding tail_of
+  stale-read (stale.Key table key) n h named =
+      let words = said_words tables (said.Stale (stale.Key table key) n) in
+      record { is_said = stale-said (stale.Key table key) n; picks = λ rest. inr (nothing-said, refl, refl, inr (committed-said (u64_at words 1), refl, refl, stale-picks (stale.Key table key) n h.0 h.1 named)) }
+  stale-read (stale.Table table) n h named =
+      let words = said_words tables (said.Stale (stale.Table table) n) in
+      record { is_said = stale-said (stale.Table table) n; picks = λ rest. inr (nothing-said, refl, refl, inr (committed-said (u64_at words 1), refl, refl, stale-picks (stale.Table table) n h.0 h.1 named)) }
+  stale-read (stale.Range table low high) n h named =
+      let words = said_words tables (said.Stale (stale.Range table low high) n) in
+      record { is_said = stale-said (stale.Range table low high) n; picks = λ rest. inr (nothing-said, refl, refl, inr (committed-said (u64_at words 1), refl, refl, stale-picks (stale.Range table low high) n h.0 h.1 named)) }
+
+  -- A reply to a commit is read back in a transaction.
+  commit-read : (told : Said) → IsCommitReply told → StaleFits tables told → IsRead tables true command.Commit told
+  unfolding tail_of
+  commit-read (said.Stale what n) h fit = stale-read what n h fit
+  commit-read (said.Committed None) h fit = record { is_said = nothing-said; picks = λ rest. inl refl }
+  commit-read (said.Committed (Some n)) small fit = record {
     is_said = committed-said n;
     picks = λ rest. inr (nothing-said, refl, no-dash (decimal n) (decimal_begins n small), inl (ap (λ (m : ℕ). said.Committed (Some m)) (u64_read n small)));
   }
-  commit-read _ h = absurd h
+  commit-read _ h fit = absurd h
 
   -- ---- writes
 
@@ -316,6 +442,31 @@ module _ (tables : List TableDecl) (names : NamesPlain tables) where
   scan-read table said.Memory h fit = record { is_said = memory-said; picks = λ rest. inl refl }
   scan-read table _ h fit = absurd h
 
+  -- A reply to a range is read back as one to a scan.
+  range-read : (table : ℕ) (low high : ℤ) (told : Said) → IsScanReply told → ScannedFits (columns_at tables table) told → IsRead tables true (command.Range table low high) told
+  range-read table low high told h fit = let read = scan-read table told h fit in record { is_said = read.is_said; picks = read.picks }
+
+  -- A total that is read back is the one that may be told.
+  total-by : (count back_count : ℕ) (sum back : ℤ) → back_count ≡ count → back ≡ sum → is_between (negsuc (2 ^ 127 - 1)) (pos (2 ^ 127 - 1)) sum ≡ true
+      → cond (is_between (negsuc (2 ^ 127 - 1)) (pos (2 ^ 127 - 1)) back) (said.Totalled back_count back ∷ []) [] ≡ said.Totalled count sum ∷ []
+  total-by count back_count sum back is_count is_sum fits =
+      ap (λ (z : ℤ). cond (is_between (negsuc (2 ^ 127 - 1)) (pos (2 ^ 127 - 1)) z) (said.Totalled back_count z ∷ []) []) is_sum
+      ∙ ap (λ (b : Bool). cond b (said.Totalled back_count sum ∷ []) []) fits ∙ ap (λ (n : ℕ). said.Totalled n sum ∷ []) is_count
+
+  -- A reply to a total is read back in a transaction.
+  total-read : (table column : ℕ) (low high : ℤ) (told : Said) → IsTotalReply told → IsRead tables true (command.Total table column low high) told
+  unfolding tail_of
+  total-read table column low high (said.Totalled count sum) h =
+      let words = said_words tables (said.Totalled count sum) in
+      record {
+        is_said = total-said count sum;
+        picks = λ rest. subst (λ (others : List Said). Picks tables (said.Totalled count sum) (said.Memory ∷ others))
+            (sym (total-by count (u64_at words 1) sum (integer_at words 2) (u64_read count h.0) (sum_read sum h.1) h.1))
+            (inr (memory-said, refl, refl, inl refl));
+      }
+  total-read table column low high said.Memory h = record { is_said = memory-said; picks = λ rest. inl refl }
+  total-read table column low high _ h = absurd h
+
   -- ---- upkeep
 
   -- A reply to an observe is read back.
@@ -425,13 +576,15 @@ module _ (tables : List TableDecl) (names : NamesPlain tables) where
 
   -- Each reply that may stand in a transaction is read back.
   within-read : (asked : Command) (told : Said) → IsReplyWithin asked told → RowsFit tables asked told → IsRead tables true asked told
-  within-read command.Begin told is fit = subst (IsRead tables true command.Begin) (sym is) (record { is_said = in-said; picks = λ rest. inl refl })
+  within-read (command.Begin checked) told is fit = subst (IsRead tables true (command.Begin checked)) (sym is) (record { is_said = in-said; picks = λ rest. inl refl })
   within-read (command.Get table key) told h fit = get-read table key told h fit
   within-read (command.Scan table) told h fit = scan-read table told h fit
+  within-read (command.Range table low high) told h fit = range-read table low high told h fit
+  within-read (command.Total table column low high) told h fit = total-read table column low high told h
   within-read (command.Insert table row) told h fit = insert-read table row told h
   within-read (command.Update table row) told h fit = let read = change-picks table told h in record { is_said = read.0; picks = λ rest. read.1 }
   within-read (command.Delete table key) told h fit = let read = change-picks table told h in record { is_said = read.0; picks = λ rest. read.1 }
-  within-read command.Commit told h fit = commit-read told h
+  within-read command.Commit told h fit = commit-read told h fit
   within-read command.Abort told is fit = subst (IsRead tables true command.Abort) (sym is) (record { is_said = aborted-said; picks = λ rest. inl refl })
   within-read command.Observe told h fit = observe-read told true h
   within-read command.Prune told h fit = prune-read told h
@@ -443,7 +596,7 @@ module _ (tables : List TableDecl) (names : NamesPlain tables) where
   -- A reply that may stand where it is due is read back.
   pub reply-back : (within : Bool) (asked : Command) (told : Said) → IsReply within asked told → RowsFit tables asked told → IsRead tables within asked told
   reply-back true asked told h fit = within-read asked told h fit
-  reply-back false command.Begin told h fit = begin-read told h
+  reply-back false (command.Begin checked) told h fit = begin-read checked told h
   reply-back false command.Observe told h fit = again command.Observe told refl (within-read command.Observe told h fit)
   reply-back false command.Prune told h fit = again command.Prune told refl (within-read command.Prune told h fit)
   reply-back false (command.Compact table) told h fit = again (command.Compact table) told refl (within-read (command.Compact table) told h fit)

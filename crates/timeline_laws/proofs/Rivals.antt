@@ -14,7 +14,7 @@ use Rattle.cell_model.specs.declared.cell.Cell.{Cell}
 use Rattle.cell_model.specs.declared.table.TableDecl.{TableDecl}
 use Rattle.isolation_spec.specs.Contents.{place_cmp, is_place, WriteSet, History}
 use Rattle.isolation_spec.specs.declared.place.Place.{Place}
-use Rattle.isolation_spec.specs.Machine.{IsolationMachine, transaction_of, writes_place, seen_rows, with_own, Transaction, later_writers, write_set_at}
+use Rattle.isolation_spec.specs.Machine.{IsolationMachine, transaction_of, writes_place, seen_rows, with_own, Transaction, later_commits, later_writers, write_set_at}
 use Rattle.isolation_laws.proofs.Rows.{place_cmp-total}
 use Rattle.workload_spec.specs.declared.command.Command.{Command}
 use Rattle.workload_spec.specs.declared.reply.Who.{Who}
@@ -33,7 +33,7 @@ use Rattle.timeline_laws.proofs.Order.{Each-first, Each-second, Each-weaker, Eac
 use Rattle.timeline_laws.proofs.Spans.{span, spans, EachSpan, Ended, spans-is}
 use Rattle.timeline_laws.proofs.Unique.{Only}
 use Rattle.timeline_laws.proofs.Belongs.{Each-up_to_end, its-thread}
-use Rattle.isolation_laws.proofs.Later.{last_writer}
+use Rattle.isolation_laws.proofs.Later.{last_passing, last_writer}
 use Rattle.timeline_laws.proofs.Writers.{LastAt, last-some, last-none, writes-more}
 use Rattle.timeline_laws.proofs.Machine.{Rival, rival-some, Free, free-none, its-session, at-written, entering, eqb-itself}
 use Rattle.timeline_laws.proofs.Steps.{Change, quiet, opens, writes, ends, commits, Clear, Verdict, accepted, rival, later, refused, limited, memory, takes-verdict}
@@ -114,82 +114,92 @@ module _ (tables : List TableDecl) (printed timeline : List Entry) (t : Timeline
       ap (λ (h : History). get_or h (k - 1) []) (history-shown tables printed timeline t ∙ cut.grows.is)
       ∙ get_or_append_left so_far cut.grows.more [] (k - 1) (omega (arith, least, low))
 
-  -- ---- the commits of a place
+  -- ---- the commits that pass a test
 
-  -- a number above the snapshot whose write set has the place
-  abbrev is_later : ℕ → Place → ℕ → Bool
-  is_later n place k = nat_lt n k && writes_place place (write_set_at (the_run).history k)
+  -- a number above the snapshot whose write set passes
+  abbrev is_later : ℕ → (WriteSet → Bool) → ℕ → Bool
+  is_later n test k = nat_lt n k && test (write_set_at (the_run).history k)
 
-  -- a place without a writer behind the snapshot is in none of the write sets in front
-  in-none : (n : ℕ) (place : Place) (k : ℕ) → n ≤ length so_far → last_writer place (n + 1) (drop n so_far) ≡ None → n < k → k ≤ length so_far → writes_place place (get_or so_far (k - 1) []) ≡ false
-  in-none n place k bound none low high =
+  -- where no commit behind the snapshot passes, none of the write sets in front does
+  in-none : (n : ℕ) (test : WriteSet → Bool) (empty : test [] ≡ false) (k : ℕ) → n ≤ length so_far → last_passing test (n + 1) (drop n so_far) ≡ None → n < k → k ≤ length so_far → test (get_or so_far (k - 1) []) ≡ false
+  in-none n test empty k bound none low high =
       let e : n + (k - 1 - n) ≡ k - 1 = omega (arith, low) in
-      ap (λ (i : ℕ). writes_place place (get_or so_far i [])) (sym e)
-      ∙ ap (writes_place place) (sym (get_or-drop n so_far (k - 1 - n) []))
-      ∙ last-none place (n + 1) (drop n so_far) none (k - 1 - n)
+      ap (λ (i : ℕ). test (get_or so_far i [])) (sym e)
+      ∙ ap test (sym (get_or-drop n so_far (k - 1 - n) []))
+      ∙ last-none test empty (n + 1) (drop n so_far) none (k - 1 - n)
 
-  -- Where no commit in front with a number above n has the place, one above n that has it is not
-  -- committed before the reply.
-  none-by : (n : ℕ) (place : Place) (k : ℕ) → n ≤ length so_far → last_writer place (n + 1) (drop n so_far) ≡ None → n < k → writes_place place (write_set_at (the_run).history k) ≡ true
+  -- Where no commit in front with a number above n passes, one above n that does is not committed
+  -- before the reply.
+  none-by : (n : ℕ) (test : WriteSet → Bool) (empty : test [] ≡ false) (k : ℕ) → n ≤ length so_far → last_passing test (n + 1) (drop n so_far) ≡ None → n < k → test (write_set_at (the_run).history k) ≡ true
       → (b : Bool) → nat_le k (length so_far) ≡ b → not (is_committed_before the_run entry k) ≡ true
-  none-by n place k bound none low has true is =
+  none-by n test empty k bound none low has true is =
       let high : k ≤ length so_far = leb-true k (length so_far) is in
-      let lacks = ap (writes_place place) (set-is k (omega (arith, low)) high) ∙ in-none n place k bound none low high in
+      let lacks = ap test (set-is k (omega (arith, low)) high) ∙ in-none n test empty k bound none low high in
       let never : true ≡ false = sym has ∙ lacks in
       absurd (let impossible : ⊥ = cc in impossible)
-  none-by n place k bound none low has false is = ap not (not-before k (let e : length so_far < k = grind (arith, nat_tests, is) in e))
+  none-by n test empty k bound none low has false is = ap not (not-before k (let e : length so_far < k = grind (arith, nat_tests, is) in e))
 
-  -- Where no commit in front with a number above n has the place, none above n that has it is
-  -- committed before the reply.
-  none-later : (n : ℕ) (place : Place) → n ≤ length so_far → last_writer place (n + 1) (drop n so_far) ≡ None → (k : ℕ) → is_later n place k ≡ true → not (is_committed_before the_run entry k) ≡ true
-  none-later n place bound none k h =
-      let parts = and_parts (nat_lt n k) (writes_place place (write_set_at (the_run).history k)) h in
+  -- Where no commit in front with a number above n passes, none above n that does is committed
+  -- before the reply.
+  none-later : (n : ℕ) (test : WriteSet → Bool) (empty : test [] ≡ false) → n ≤ length so_far → last_passing test (n + 1) (drop n so_far) ≡ None → (k : ℕ) → is_later n test k ≡ true → not (is_committed_before the_run entry k) ≡ true
+  none-later n test empty bound none k h =
+      let parts = and_parts (nat_lt n k) (test (write_set_at (the_run).history k)) h in
       let low : n < k = grind (arith, nat_tests, parts.0) in
-      none-by n place k bound none low parts.1 (nat_le k (length so_far)) refl
+      none-by n test empty k bound none low parts.1 (nat_le k (length so_far)) refl
 
   -- where no commit behind the snapshot has the place, the reply passes over none
   pub no-commit : (u : Span) (place : Place) → u.snapshot ≤ length so_far → last_writer place (u.snapshot + 1) (drop u.snapshot so_far) ≡ None → passes_no_commit the_run u place entry ≡ true
   no-commit u place bound none =
-      (filter-all (λ k. not (is_committed_before the_run entry k)) (is_later u.snapshot place) (none-later u.snapshot place bound none) (range_with_len 1 (length (the_run).history)))
+      (filter-all (λ k. not (is_committed_before the_run entry k)) (is_later u.snapshot (writes_place place)) (none-later u.snapshot (writes_place place) refl bound none) (range_with_len 1 (length (the_run).history)))
 
-  -- the last writer is the last of those before the reply
-  last-by : (n : ℕ) (place : Place) (number k : ℕ) → n ≤ length so_far → (at : LastAt place (n + 1) (drop n so_far) number) → is_later n place k ≡ true
+  -- the last that passes is the last of those before the reply
+  last-by : (n : ℕ) (test : WriteSet → Bool) (number k : ℕ) → n ≤ length so_far → (at : LastAt test (n + 1) (drop n so_far) number) → is_later n test k ≡ true
       → (b c : Bool) → nat_le k number ≡ b → nat_le k (length so_far) ≡ c → (nat_le k number || not (is_committed_before the_run entry k)) ≡ true
-  last-by n place number k bound at h true c is is_c = rw is refl
-  last-by n place number k bound at h false true is is_c =
-      let parts = and_parts (nat_lt n k) (writes_place place (write_set_at (the_run).history k)) h in
+  last-by n test number k bound at h true c is is_c = rw is refl
+  last-by n test number k bound at h false true is is_c =
+      let parts = and_parts (nat_lt n k) (test (write_set_at (the_run).history k)) h in
       let low : n < k = grind (arith, nat_tests, parts.0) in
       let above : number < k = grind (arith, nat_tests, is) in
       let high : k ≤ length so_far = leb-true k (length so_far) is_c in
       let beyond : at.index < k - 1 - n = omega (arith, at.number_is, above, low) in
       let e : n + (k - 1 - n) ≡ k - 1 = omega (arith, low) in
-      let lacks : writes_place place (get_or so_far (k - 1) []) ≡ false =
-      ap (λ (i : ℕ). writes_place place (get_or so_far i [])) (sym e) ∙ ap (writes_place place) (sym (get_or-drop n so_far (k - 1 - n) [])) ∙ at.last (k - 1 - n) beyond in
-      let never : true ≡ false = sym parts.1 ∙ ap (writes_place place) (set-is k (omega (arith, low)) high) ∙ lacks in
+      let lacks : test (get_or so_far (k - 1) []) ≡ false =
+      ap (λ (i : ℕ). test (get_or so_far i [])) (sym e) ∙ ap test (sym (get_or-drop n so_far (k - 1 - n) [])) ∙ at.last (k - 1 - n) beyond in
+      let never : true ≡ false = sym parts.1 ∙ ap test (set-is k (omega (arith, low)) high) ∙ lacks in
       absurd (let impossible : ⊥ = cc in impossible)
-  last-by n place number k bound at h false false is is_c =
+  last-by n test number k bound at h false false is is_c =
       or_right (nat_le k number) (not (is_committed_before the_run entry k)) (ap not (not-before k (let e : length so_far < k = grind (arith, nat_tests, is_c) in e)))
 
-  -- the last commit behind the snapshot that has the place may be named
-  pub commit-named : (u : Span) (place : Place) (number : ℕ) → u.snapshot ≤ length so_far → last_writer place (u.snapshot + 1) (drop u.snapshot so_far) ≡ Some number → names_commit the_run u place entry number ≡ true
-  commit-named u place number bound is =
+  -- a commit number may be named of the commits that pass
+  abbrev pub may_name : Span → (WriteSet → Bool) → ℕ → Bool
+  may_name u test number =
+      list_any (λ later. eqb later number) (later_commits (the_run).history u.snapshot test) && is_committed_not_after the_run entry number
+      && list_all (λ later. nat_le later number || not (is_committed_before the_run entry later)) (later_commits (the_run).history u.snapshot test)
+
+  -- the last commit behind the snapshot that passes may be named
+  pub last-named : (u : Span) (test : WriteSet → Bool) (empty : test [] ≡ false) (number : ℕ) → u.snapshot ≤ length so_far → last_passing test (u.snapshot + 1) (drop u.snapshot so_far) ≡ Some number → may_name u test number ≡ true
+  last-named u test empty number bound is =
       let n = u.snapshot in
-      let at = last-some place (n + 1) (drop n so_far) number is in
+      let at = last-some test empty (n + 1) (drop n so_far) number is in
       let inside : at.index < length (drop n so_far) = at.inside in
       let size : length (drop n so_far) + n ≡ length so_far = omega (arith, length-drop n so_far, bound) in
       let low : n < number = omega (arith, at.number_is) in
       let high : number ≤ length so_far = omega (arith, at.number_is, inside, size) in
       let index_is : n + at.index ≡ number - 1 = omega (arith, at.number_is) in
-      let has : writes_place place (write_set_at (the_run).history number) ≡ true =
-      ap (writes_place place) (set-is number (omega (arith, low)) high ∙ ap (λ (i : ℕ). get_or so_far i []) (sym index_is) ∙ sym (get_or-drop n so_far at.index [])) ∙ at.has in
+      let has : test (write_set_at (the_run).history number) ≡ true =
+      ap test (set-is number (omega (arith, low)) high ∙ ap (λ (i : ℕ). get_or so_far i []) (sym index_is) ∙ sym (get_or-drop n so_far at.index [])) ∙ at.passes in
       let above : nat_lt n number ≡ true = grind (arith, nat_tests, low) in
       let long : length (the_run).history ≡ length so_far + length cut.grows.more = ap length (history-shown tables printed timeline t ∙ cut.grows.is) ∙ length-append so_far cut.grows.more in
-      all-three (list_any (λ later. eqb later number) (later_writers (the_run).history u.snapshot place)) (is_committed_not_after the_run entry number)
-      (list_all (λ later. nat_le later number || not (is_committed_before the_run entry later)) (later_writers (the_run).history u.snapshot place))
-      (range-any (is_later n place) number 1 (length (the_run).history) (omega (arith, low)) (omega (arith, high, long)) (and_from (nat_lt n number) (writes_place place (write_set_at (the_run).history number)) above has))
+      all-three (list_any (λ later. eqb later number) (later_commits (the_run).history u.snapshot test)) (is_committed_not_after the_run entry number)
+      (list_all (λ later. nat_le later number || not (is_committed_before the_run entry later)) (later_commits (the_run).history u.snapshot test))
+      (range-any (is_later n test) number 1 (length (the_run).history) (omega (arith, low)) (omega (arith, high, long)) (and_from (nat_lt n number) (test (write_set_at (the_run).history number)) above has))
       (not-after-line number (omega (arith, low)) high)
-      (filter-all (λ k. nat_le k number || not (is_committed_before the_run entry k)) (is_later n place)
-      (λ k h. last-by n place number k bound at h (nat_le k number) (nat_le k (length so_far)) refl refl) (range_with_len 1 (length (the_run).history)))
+      (filter-all (λ k. nat_le k number || not (is_committed_before the_run entry k)) (is_later n test)
+      (λ k h. last-by n test number k bound at h (nat_le k number) (nat_le k (length so_far)) refl refl) (range_with_len 1 (length (the_run).history)))
+
+  -- the last commit behind the snapshot that has the place may be named
+  commit-named : (u : Span) (place : Place) (number : ℕ) → u.snapshot ≤ length so_far → last_writer place (u.snapshot + 1) (drop u.snapshot so_far) ≡ Some number → names_commit the_run u place entry number ≡ true
+  commit-named u place number bound is = last-named u (writes_place place) refl number bound is
 
   -- ---- the open transactions of a place
 
@@ -381,45 +391,51 @@ grows-of : (tables : List TableDecl) (front : List Entry) (machine : IsolationMa
     → last_of tables front machine rest runs ≡ end → Grows machine.history end.history
 grows-of tables front machine rest shown runs is = subst (λ (m : IsolationMachine). Grows machine.history m.history) is (all-grow tables front machine rest shown runs)
 
--- Where there is no last writer behind a snapshot, no commit there has the place.
-lacks-in : (history : History) (n : ℕ) (place : Place) (k : ℕ) → last_writer place (n + 1) (drop n history) ≡ None → n < k → writes_place place (get_or history (k - 1) []) ≡ false
-lacks-in history n place k none low =
+-- Where no commit behind a snapshot passes, none of those there does.
+lacks-in : (history : History) (n : ℕ) (test : WriteSet → Bool) (empty : test [] ≡ false) (k : ℕ) → last_passing test (n + 1) (drop n history) ≡ None → n < k → test (get_or history (k - 1) []) ≡ false
+lacks-in history n test empty k none low =
     let e : n + (k - 1 - n) ≡ k - 1 = omega (arith, low) in
-    ap (λ (i : ℕ). writes_place place (get_or history i [])) (sym e)
-    ∙ ap (writes_place place) (sym (get_or-drop n history (k - 1 - n) []))
-    ∙ last-none place (n + 1) (drop n history) none (k - 1 - n)
+    ap (λ (i : ℕ). test (get_or history i [])) (sym e)
+    ∙ ap test (sym (get_or-drop n history (k - 1 - n) []))
+    ∙ last-none test empty (n + 1) (drop n history) none (k - 1 - n)
 
-module _ (tables : List TableDecl) (printed timeline : List Entry) (t : Timeline tables printed timeline) (u : Span) (place : Place) where
+module _ (tables : List TableDecl) (printed timeline : List Entry) (t : Timeline tables printed timeline) (u : Span) where
   -- The run that is read from all printed replies.
   abbrev run_of_all : Run
   run_of_all = run tables printed timeline t
 
-  -- Whether a commit is behind the snapshot and has the place.
-  abbrev behind_snapshot : ℕ → Bool
-  behind_snapshot k = nat_lt u.snapshot k && writes_place place (write_set_at (run_of_all).history k)
+  module _ (test : WriteSet → Bool) (empty : test [] ≡ false) where
+    -- Whether a commit is behind the snapshot and passes.
+    abbrev behind_snapshot : ℕ → Bool
+    behind_snapshot k = nat_lt u.snapshot k && test (write_set_at (run_of_all).history k)
+
+    -- A commit behind the snapshot that passes is above those of this history.
+    above-all : (history : History) → Grows history (last tables printed timeline t).history → last_passing test (u.snapshot + 1) (drop u.snapshot history) ≡ None
+        → (k : ℕ) → behind_snapshot k ≡ true → (b : Bool) → nat_le (length history + 1) k ≡ b → nat_le (length history + 1) k ≡ true
+    above-all history grows none k h true is = is
+    above-all history grows none k h false is =
+        let parts = and_parts (nat_lt u.snapshot k) (test (write_set_at (run_of_all).history k)) h in
+        let low : u.snapshot < k = grind (arith, nat_tests, parts.0) in
+        let high : k ≤ length history = grind (arith, nat_tests, is) in
+        let same : write_set_at (run_of_all).history k ≡ get_or history (k - 1) [] =
+        ap (λ (xs : History). get_or xs (k - 1) []) (history-shown tables printed timeline t ∙ grows.is) ∙ get_or_append_left history grows.more [] (k - 1) (omega (arith, low, high)) in
+        let never : true ≡ false = sym parts.1 ∙ ap test same ∙ lacks-in history u.snapshot test empty k none low in
+        absurd (let impossible : ⊥ = cc in impossible)
+
+    -- The number behind this history is at most that of each later commit that passes.
+    pub first-number : (history : History) → Grows history (last tables printed timeline t).history → last_passing test (u.snapshot + 1) (drop u.snapshot history) ≡ None
+        → list_all (nat_le (length history + 1)) (later_commits (run_of_all).history u.snapshot test) ≡ true
+    first-number history grows none =
+        filter-all (nat_le (length history + 1)) behind_snapshot (λ k h. above-all history grows none k h (nat_le (length history + 1) k) refl) (range_with_len 1 (length (run_of_all).history))
+
+module _ (tables : List TableDecl) (printed timeline : List Entry) (t : Timeline tables printed timeline) (u : Span) (place : Place) where
+  -- The run that is read from all printed replies.
+  abbrev the_whole : Run
+  the_whole = run tables printed timeline t
 
   -- the first end among replies commits below no other commit of the place
   abbrev commits_first : Option Entry → Type 0
-  commits_first found = option_map_or (λ number. list_all (nat_le number) (later_writers (run_of_all).history u.snapshot place)) (option_and_then (λ ending. commit_in ending.reply.said) found) true ≡ true
-
-  -- A commit of the place behind the snapshot is above those of this history.
-  above-all : (history : History) → Grows history (last tables printed timeline t).history → last_writer place (u.snapshot + 1) (drop u.snapshot history) ≡ None
-      → (k : ℕ) → behind_snapshot k ≡ true → (b : Bool) → nat_le (length history + 1) k ≡ b → nat_le (length history + 1) k ≡ true
-  above-all history grows none k h true is = is
-  above-all history grows none k h false is =
-      let parts = and_parts (nat_lt u.snapshot k) (writes_place place (write_set_at (run_of_all).history k)) h in
-      let low : u.snapshot < k = grind (arith, nat_tests, parts.0) in
-      let high : k ≤ length history = grind (arith, nat_tests, is) in
-      let same : write_set_at (run_of_all).history k ≡ get_or history (k - 1) [] =
-      ap (λ (xs : History). get_or xs (k - 1) []) (history-shown tables printed timeline t ∙ grows.is) ∙ get_or_append_left history grows.more [] (k - 1) (omega (arith, low, high)) in
-      let never : true ≡ false = sym parts.1 ∙ ap (writes_place place) same ∙ lacks-in history u.snapshot place k none low in
-      absurd (let impossible : ⊥ = cc in impossible)
-
-  -- The number behind this history is at most that of each later writer.
-  first-number : (history : History) → Grows history (last tables printed timeline t).history → last_writer place (u.snapshot + 1) (drop u.snapshot history) ≡ None
-      → list_all (nat_le (length history + 1)) (later_writers (run_of_all).history u.snapshot place) ≡ true
-  first-number history grows none =
-      filter-all (nat_le (length history + 1)) behind_snapshot (λ k h. above-all history grows none k h (nat_le (length history + 1) k) refl) (range_with_len 1 (length (run_of_all).history))
+  commits_first found = option_map_or (λ number. list_all (nat_le number) (later_writers (the_whole).history u.snapshot place)) (option_and_then (λ ending. commit_in ending.reply.said) found) true ≡ true
 
   module _ (s : ℕ) where
     abbrev who_s : Who
@@ -477,7 +493,7 @@ module _ (tables : List TableDecl) (printed timeline : List Entry) (t : Timeline
     end-own front machine after e rest shown grows h more same (commits c) =
         let none = ap (λ (n : ℕ). last_writer place (n + 1) (drop n machine.history)) (sym h.2) ∙ shown.sane.first s h.0 place h.1 h.3 in
         ends-by e rest same (ap is_end c.said_is)
-        (ap (λ (told : Said). option_map_or (λ number. list_all (nat_le number) (later_writers (run_of_all).history u.snapshot place)) (commit_in told) true) c.said_is ∙ first-number machine.history grows none)
+        (ap (λ (told : Said). option_map_or (λ number. list_all (nat_le number) (later_writers (the_whole).history u.snapshot place)) (commit_in told) true) c.said_is ∙ first-number tables printed timeline t u (writes_place place) refl machine.history grows none)
 
     end-step : (front : List Entry) (machine after : IsolationMachine) (e : Entry) (rest : List Entry) → Shown front machine → Change e.reply.who e.command e.reply.said machine after
         → Grows machine.history (last tables printed timeline t).history → StillHas machine
@@ -620,5 +636,5 @@ module _ (tables : List TableDecl) (printed timeline : List Entry) (t : Timeline
   conflicts-hold-here =
       by-transaction tables printed timeline t entry only cut (conflict_test (run tables printed timeline t) entry)
       (λ o at within. conflict-inside entry.reply.who refl o at within (write_of entry.command) refl)
-      (λ u is_asked is. ap (λ (asked : Command). option_map_or (λ write. conflict_holds (run tables printed timeline t) u write.0 entry entry.reply.said) (write_of asked) true) is_asked)
+      (λ u checked is_asked is. ap (λ (asked : Command). option_map_or (λ write. conflict_holds (run tables printed timeline t) u write.0 entry entry.reply.said) (write_of asked) true) is_asked)
       (open_of entry.reply.who cut.machine) refl cut.change

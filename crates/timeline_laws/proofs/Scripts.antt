@@ -2,6 +2,7 @@
 -- of a run.
 use Rattle.std.proofs.Common.{◌≡◌, ℕ, ◌+◌, ◌≤◌, Bool, true, false, cond, ◌&&◌, ◌||◌, inl, inr, nat_le, nat_lt, eqb, zero, suc, List, [], ◌∷◌, ◌++◌, length, Option, Some, None, Ok, refl, sym, ap, ◌∙◌, subst, arith, append-nil, append_assoc}
 use Rattle.std.specs.Prelude.{◌==◌, slice_get, is_some}
+use Rattle.std.specs.Option.{option_map_or}
 use Rattle.std.specs.List.{list_all, flat_map, cons_option, count_by, range_with_len, enumerate_from}
 use Rattle.std.proofs.lemmas.Bool.{and_parts, and_from, leb-true, lt-ltb}
 use Rattle.std.proofs.lemmas.Bool.Decides.{nat_tests}
@@ -14,8 +15,10 @@ use Rattle.workload_spec.specs.declared.script.Line.{Line}
 use Rattle.workload_spec.specs.declared.script.Script.{Script}
 use Rattle.workload_spec.specs.declared.reply.Who.TheVariants.{Session, Worker}
 use Rattle.workload_spec.specs.declared.reply.Said.{Said}
-use Rattle.workload_spec.specs.Grammar.{table_named}
-use Rattle.workload_spec.specs.Valid.{is_valid, has_head, is_table, is_table_place, is_command, is_name, is_name_byte, is_lower_case, is_within, are_columns, are_slots, are_blocks, have_own_names, most_tables, most_sessions, most_workers, most_turns, is_line, all_lines, is_export, has_version}
+use Rattle.workload_spec.specs.Grammar.{or_cause, table_named}
+use Rattle.workload_spec.specs.ScriptText.{name_of_table}
+use Rattle.workload_spec.specs.declared.script.Cause.TheVariants as cause
+use Rattle.workload_spec.specs.Valid.{is_valid, has_head, is_table, is_table_place, is_command, is_name, is_name_byte, is_lower_case, is_within, are_columns, are_slots, are_blocks, have_own_names, most_tables, most_sessions, most_workers, most_turns, is_line, all_lines, is_export, has_version, takes_command}
 use Rattle.workload_laws.proofs.Apart.{is_plain}
 use Rattle.workload_laws.proofs.CommandsBack.{place_stands}
 use Rattle.outcome_spec.specs.Forms.{Due, commands_of, dues_to, dues_in, dues_of, turn_of, is_upkeep}
@@ -24,6 +27,7 @@ use Rattle.timeline_laws.specs.Laws.{TimelineIsRead, RunIsExplained, InTurnIsExp
 use Rattle.timeline_laws.proofs.ReadBack.{NamesPlain}
 use Rattle.timeline_laws.proofs.Turns.{IsStep, Named}
 use Rattle.timeline_laws.proofs.Silence.{AllSteps, AreFormed, BeginsFixed, Pieces, dues_in_pieces, pieces-read}
+use Rattle.timeline_laws.proofs.Kept.{AreNamed}
 use Rattle.timeline_laws.proofs.States.{EachDue, timeline-replies}
 use Rattle.timeline_laws.proofs.Printing.{printed-in-turn}
 use Rattle.timeline_laws.proofs.Sound.{timeline-explained}
@@ -242,7 +246,8 @@ commands-valid script session [] h = tt
 commands-valid script session (line ∷ lines) h =
     let parts = and_parts (is_line script line) (list_all (is_line script) lines) h in
     kept-command script.tables (line.session == session) line.command (commands_of session lines)
-    (and_parts (is_within 1 script.sessions line.session) (is_command script.tables line.command) parts.0).1 (commands-valid script session lines parts.1)
+    (and_parts (is_within 1 script.sessions line.session) (is_command script.tables line.command)
+    (and_parts (is_within 1 script.sessions line.session && is_command script.tables line.command) (takes_command script.version line.command) parts.0).0).1 (commands-valid script session lines parts.1)
 
 -- What is due in rounds of valid lines is a session's or a worker's.
 rounds-due : (script : Script) (round : ℕ) (rounds : List (List Line)) → list_all (is_line script) (flat_map (λ lines. lines) rounds) ≡ true
@@ -307,6 +312,35 @@ names-apart tables all own a b at_a at_b same =
     let e = sym first.named ∙ ap (table_named tables) same ∙ second.named in
     cc
 
+-- What is found is found where it is asked for by its cause.
+named-found : (found : Option ℕ) (table : ℕ) → or_cause cause.Unknown found ≡ Ok table → found ≡ Some table
+named-found None table h = absurd (let never : ⊥ = cc in never)
+named-found (Some place) table h = (let e : place ≡ table = cc in ap Some e)
+
+-- A name begins with a letter.
+name-letter : (word : List ℕ) → is_name word ≡ true → (first : ℕ) × (rest : List ℕ) × (word ≡ first ∷ rest) × (58 ≤ first)
+name-letter [] h = absurd (let never : ⊥ = cc in never)
+name-letter (first ∷ rest) h =
+    let parts = and_parts (is_lower_case first && list_all is_name_byte rest) (nat_lt (length rest) 32) h in
+    let lower = and_parts (is_lower_case first) (list_all is_name_byte rest) parts.0 in
+    let low = and_parts (nat_le 97 first) (nat_le first 122) lower.0 in
+    (first, rest, refl, (let e : 97 ≤ first = leb-true 97 first low.0 in omega (arith, e)))
+
+-- The name of a valid table.
+table-name : (decl : TableDecl) → is_table decl ≡ true → is_name decl.name ≡ true
+table-name decl h =
+    let last = and_parts (is_name decl.name && are_columns decl.schema && are_slots decl.schema decl.slots) (are_blocks decl.blocks) h in
+    let third = and_parts (is_name decl.name && are_columns decl.schema) (are_slots decl.schema decl.slots) last.0 in
+    (and_parts (is_name decl.name) (are_columns decl.schema) third.0).0
+
+-- Valid tables with names of their own are named.
+tables-named : (tables : List TableDecl) → list_all is_table tables ≡ true → have_own_names tables ≡ true → AreNamed tables
+tables-named tables all own table there =
+    let stands = place_stands tables table all own there in
+    let name : name_of_table tables table ≡ stands.table.name = ap (λ (o : Option TableDecl). option_map_or (λ t. t.name) o []) stands.at in
+    let letter = name-letter stands.table.name (table-name stands.table stands.is) in
+    record { at = named-found _ table stands.named; first = letter.0; rest = letter.1; is = name ∙ letter.2; letter = letter.3 }
+
 -- ---- valid scripts
 
 -- what of a valid script is used: its tables, their names and its lines
@@ -344,7 +378,7 @@ pub timeline-read : TimelineIsRead
 timeline-read script told timeline valid may t =
     let sound = script-sound script valid in
     let laid = script-laid script sound.tables in
-    let replies = timeline-replies script told timeline (rounds-due script 1 script.rounds sound.lines) may t in
+    let replies = timeline-replies script told timeline (tables-named script.tables sound.tables sound.names) (rounds-due script 1 script.rounds sound.lines) may t in
     subst (λ (dues : List Due). IsReadBack script dues told) (sym laid.is)
     (pieces-read script.tables (names-plain script.tables sound.tables) (names-apart script.tables sound.tables sound.names) laid.pieces laid.formed [] told
     (subst (λ (dues : List Due). AreReplies script.tables [] dues told) laid.is replies))

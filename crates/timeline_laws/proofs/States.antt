@@ -4,14 +4,18 @@ use Rattle.std.specs.Prelude.{is_some, fold, length, IsSome}
 use Rattle.std.proofs.lemmas.List.Elements.{filter-append}
 use Rattle.cell_model.specs.declared.table.TableDecl.{TableDecl}
 use Rattle.cell_model.specs.declared.cell.Cell.{Cell}
-use Rattle.isolation_spec.specs.Contents.{WriteSet, at_place, place_at, contents_of}
+use Rattle.isolation_spec.specs.Contents.{WriteSet, at_place, place_at, contents_of, contents_between, numbers_between}
+use Rattle.isolation_spec.specs.Checked.{step_with, stale_of}
+use Rattle.isolation_spec.specs.Reads.{ReadSet}
+use Rattle.isolation_spec.specs.declared.read.Read.{Read}
+use Rattle.isolation_laws.proofs.Checked.{commit-stands, commit-refused, stale-closed}
 use Rattle.isolation_spec.specs.declared.place.Place.{Place}
 use Rattle.isolation_spec.specs.declared.command.Act.{Act}
 use Rattle.isolation_spec.specs.declared.command.Act.TheVariants as act
 use Rattle.isolation_spec.specs.declared.command.Answer.{Answer}
 use Rattle.isolation_spec.specs.declared.command.Answer.TheVariants as answer
 use Rattle.isolation_spec.specs.Store.{Outcome, Answered, Freezing, Full, Memory, Allows}
-use Rattle.isolation_spec.specs.Machine.{IsolationMachine, transaction_of, seen_rows, step, step_of, commit, Transaction}
+use Rattle.isolation_spec.specs.Machine.{IsolationMachine, transaction_of, seen_rows, step, step_of, commit, told_total, Transaction}
 use Rattle.workload_spec.specs.declared.command.Command.{Command}
 use Rattle.workload_spec.specs.declared.command.Command.TheVariants as command
 use Rattle.workload_spec.specs.declared.reply.Who.{Who}
@@ -19,6 +23,7 @@ use Rattle.workload_spec.specs.declared.reply.Who.TheVariants.{Session, Worker}
 use Rattle.workload_spec.specs.declared.reply.Said.{Said}
 use Rattle.workload_spec.specs.declared.reply.Said.TheVariants as said
 use Rattle.outcome_spec.specs.Entries.{Entry, is_same}
+use Rattle.outcome_spec.specs.Stale.{reads_after}
 use Rattle.outcome_spec.specs.Forms.{Due, dues_of, command_shown, entry_behind, is_within, is_worker, within_behind, is_upkeep}
 use Rattle.outcome_spec.specs.Answers.{is_acceptable}
 use Rattle.timeline_spec.specs.Timeline.{open_of, said_of, Tells, request_of, TakesAs, Takes, Aside, ExportsBy, ExportsWithin, is_of_upkeep, Each, InOrder, Timeline}
@@ -26,7 +31,7 @@ use Rattle.outcome_spec.specs.Entries.{thread}
 use Rattle.timeline_spec.specs.Printed.{printed_from, printed_of}
 use Rattle.timeline_spec.specs.Forms.{IsBeginReply, IsReplyWithin, IsReplyWithout, MayStand, AllMayStand}
 use Rattle.timeline_laws.proofs.Stated.{AreReplies, IsReply, RowsFit}
-use Rattle.timeline_laws.proofs.Kept.{printed-rows-fit}
+use Rattle.timeline_laws.proofs.Kept.{AreNamed, printed-rows-fit}
 use Rattle.timeline_laws.proofs.Tests.{or-last}
 use Rattle.workload_spec.specs.Valid.{is_command}
 use Rattle.workload_spec.specs.declared.script.Script.{Script}
@@ -48,13 +53,13 @@ outside said.NoTransaction = true
 outside _ = false
 
 -- Where the machine's answer is not told without a transaction, no outcome is.
-outcome-outside : (machine : IsolationMachine) (session : ℕ) (act : Act) (own : Answer) (told : Said) (after : IsolationMachine)
-    → (step machine (asks session act)).0 ≡ own → outside (said_of own) ≡ false → (outcome : Outcome) → Tells outcome told → Allows machine (asks session act) outcome after → outside told ≡ false
-outcome-outside machine session act own told after is free (Answered a) tells allows =
+outcome-outside : (machine : IsolationMachine) (reads : Option ReadSet) (session : ℕ) (act : Act) (own : Answer) (told : Said) (after : IsolationMachine)
+    → (step_with machine reads (asks session act)).0 ≡ own → outside (said_of own) ≡ false → (outcome : Outcome) → Tells outcome told → Allows machine reads (asks session act) outcome after → outside told ≡ false
+outcome-outside machine reads session act own told after is free (Answered a) tells allows =
     let e : a ≡ own = sym (ap (λ (p : Answer × IsolationMachine). p.0) allows) ∙ is in ap outside (tells ∙ ap said_of e) ∙ free
-outcome-outside machine session act own told after is free Freezing tells allows = ap outside tells.3
-outcome-outside machine session act own told after is free Full tells allows = ap outside tells
-outcome-outside machine session act own told after is free Memory tells allows = ap outside tells
+outcome-outside machine reads session act own told after is free Freezing tells allows = ap outside tells.3
+outcome-outside machine reads session act own told after is free Full tells allows = ap outside tells
+outcome-outside machine reads session act own told after is free Memory tells allows = ap outside tells
 
 -- What a get finds is not told without a transaction.
 got-inside : (o : Option (List Cell)) → outside (said_of (answer.Found o)) ≡ false
@@ -65,6 +70,15 @@ got-inside (Some row) = refl
 commit-inside : (machine : IsolationMachine) (o : Transaction) (own : WriteSet) → outside (said_of (commit machine o own).0) ≡ false
 commit-inside machine o [] = refl
 commit-inside machine o (first ∷ rest) = refl
+
+-- Nor is the answer to a commit that hands in reads, stale or not.
+handed-inside : (machine : IsolationMachine) (reads : Option ReadSet) (session : ℕ) (o : Transaction) (stale : Option (Read × ℕ)) → transaction_of session machine ≡ Some o
+    → stale_of machine reads session act.Commit ≡ stale → outside (said_of (step_with machine reads (asks session act.Commit)).0) ≡ false
+handed-inside machine reads session o None at is =
+    ap (λ (p : Answer × IsolationMachine). outside (said_of p.0)) (commit-stands machine reads session is)
+    ∙ ap (λ (f : Option Transaction). outside (said_of (step_of machine (asks session act.Commit) f).0)) at
+    ∙ commit-inside machine o o.own
+handed-inside machine reads session o (Some stale) at is = ap (λ (p : Answer × IsolationMachine). outside (said_of p.0)) (commit-refused machine reads session stale is)
 
 -- What upkeep tells is no reply of one without a transaction.
 upkeep-inside : (told : Said) → is_of_upkeep told ≡ true → outside told ≡ false
@@ -93,14 +107,20 @@ verdict-inside machine o place acceptable told (memory is) = ap outside is
 takes-inside : (tables : List TableDecl) (front : List Entry) (machine : IsolationMachine) (entry : Entry) (after : IsolationMachine) (who : Who) (asked : Command) (o : Transaction)
     → entry.command ≡ asked → entry.reply.who ≡ who → open_of who machine ≡ Some o → TakesAs tables front machine entry after (request_of who asked) → outside entry.reply.said ≡ false
 takes-inside tables front machine entry after (Worker worker) asked o is is_who at h = absurd (let never : ⊥ = cc in never)
-takes-inside tables front machine entry after (Session session) command.Begin o is is_who at h =
-    outcome-outside machine session act.Begin answer.InTransaction entry.reply.said after (ap (λ (f : Option Transaction). (step_of machine (asks session act.Begin) f).0) at) refl h.outcome h.tells h.allows
+takes-inside tables front machine entry after (Session session) (command.Begin checked) o is is_who at h =
+    outcome-outside machine (reads_after (thread entry.reply.who front)) session (act.Begin checked) answer.InTransaction entry.reply.said after (ap (λ (f : Option Transaction). (step_of machine (asks session (act.Begin checked)) f).0) at) refl h.outcome h.tells h.allows
 takes-inside tables front machine entry after (Session session) (command.Get table key) o is is_who at h =
-    outcome-outside machine session (act.Get table key) (answer.Found (at_place (seen_rows machine o) (place_at table key))) entry.reply.said after
+    outcome-outside machine (reads_after (thread entry.reply.who front)) session (act.Get table key) (answer.Found (at_place (seen_rows machine o) (place_at table key))) entry.reply.said after
     (ap (λ (f : Option Transaction). (step_of machine (asks session (act.Get table key)) f).0) at) (got-inside (at_place (seen_rows machine o) (place_at table key))) h.outcome h.tells h.allows
 takes-inside tables front machine entry after (Session session) (command.Scan table) o is is_who at h =
-    outcome-outside machine session (act.Scan table) (answer.Rows (contents_of table (seen_rows machine o))) entry.reply.said after
+    outcome-outside machine (reads_after (thread entry.reply.who front)) session (act.Scan table) (answer.Rows (contents_of table (seen_rows machine o))) entry.reply.said after
     (ap (λ (f : Option Transaction). (step_of machine (asks session (act.Scan table)) f).0) at) refl h.outcome h.tells h.allows
+takes-inside tables front machine entry after (Session session) (command.Range table low high) o is is_who at h =
+    outcome-outside machine (reads_after (thread entry.reply.who front)) session (act.Range table low high) (answer.Rows (contents_between table low high (seen_rows machine o))) entry.reply.said after
+    (ap (λ (f : Option Transaction). (step_of machine (asks session (act.Range table low high)) f).0) at) refl h.outcome h.tells h.allows
+takes-inside tables front machine entry after (Session session) (command.Total table column low high) o is is_who at h =
+    outcome-outside machine (reads_after (thread entry.reply.who front)) session (act.Total table column low high) (told_total (numbers_between column low high (contents_of table (seen_rows machine o)))) entry.reply.said after
+    (ap (λ (f : Option Transaction). (step_of machine (asks session (act.Total table column low high)) f).0) at) refl h.outcome h.tells h.allows
 takes-inside tables front machine entry after (Session session) (command.Insert table row) o is is_who at h =
     verdict-inside machine o _ (is_acceptable (seen_rows machine o) (command.Insert table row)) entry.reply.said
     (takes-verdict tables front machine session o (command.Insert table row) entry.reply.said after entry _ _ is refl at refl h)
@@ -111,10 +131,11 @@ takes-inside tables front machine entry after (Session session) (command.Delete 
     verdict-inside machine o _ (is_acceptable (seen_rows machine o) (command.Delete table key)) entry.reply.said
     (takes-verdict tables front machine session o (command.Delete table key) entry.reply.said after entry _ _ is refl at refl h)
 takes-inside tables front machine entry after (Session session) command.Commit o is is_who at h =
-    outcome-outside machine session act.Commit (commit machine o o.own).0 entry.reply.said after
-    (ap (λ (f : Option Transaction). (step_of machine (asks session act.Commit) f).0) at) (commit-inside machine o o.own) h.outcome h.tells h.allows
+    outcome-outside machine (reads_after (thread entry.reply.who front)) session act.Commit
+    (step_with machine (reads_after (thread entry.reply.who front)) (asks session act.Commit)).0 entry.reply.said after refl
+    (handed-inside machine (reads_after (thread entry.reply.who front)) session o (stale_of machine (reads_after (thread entry.reply.who front)) session act.Commit) at refl) h.outcome h.tells h.allows
 takes-inside tables front machine entry after (Session session) command.Abort o is is_who at h =
-    outcome-outside machine session act.Abort answer.Aborted entry.reply.said after (ap (λ (f : Option Transaction). (step_of machine (asks session act.Abort) f).0) at) refl h.outcome h.tells h.allows
+    outcome-outside machine (reads_after (thread entry.reply.who front)) session act.Abort answer.Aborted entry.reply.said after (ap (λ (f : Option Transaction). (step_of machine (asks session act.Abort) f).0) at) refl h.outcome h.tells h.allows
 takes-inside tables front machine entry after (Session session) (command.Export table) o is is_who at h =
     let aside : Aside tables front machine entry.reply.who (command.Export table) entry.reply.said = subst (λ (c : Command). Aside tables front machine entry.reply.who c entry.reply.said) is h.0 in
     export-inside tables front machine o table entry.reply.said (subst (λ (found : Option Transaction). ExportsBy tables front machine found table entry.reply.said) (ap (λ (w : Who). open_of w machine) is_who ∙ at) aside)
@@ -128,13 +149,14 @@ nothing-open None h k = (let never : ⊥ = cc in never)
 nothing-open (Some t) h k = (let never : ⊥ = cc in never)
 
 -- without a transaction a session is told so, or begins one
-outcome-none : (machine : IsolationMachine) (session : ℕ) (act : Act) (own : Answer) (told : Said) (after : IsolationMachine) → transaction_of session machine ≡ None
-    → (step machine (asks session act)).0 ≡ own → (own ≡ answer.Accepted → ⊥) → (outcome : Outcome) → Tells outcome told → Allows machine (asks session act) outcome after → told ≡ said_of own
-outcome-none machine session act own told after none is apart (Answered a) tells allows =
-    let e : a ≡ own = sym (ap (λ (p : Answer × IsolationMachine). p.0) allows) ∙ is in tells ∙ ap said_of e
-outcome-none machine session act own told after none is apart Freezing tells allows = absurd (apart (sym is ∙ allows.1))
-outcome-none machine session act own told after none is apart Full tells allows = absurd (apart (sym is ∙ allows.1))
-outcome-none machine session act own told after none is apart Memory tells allows = absurd (nothing-open (transaction_of session machine) none allows.1)
+outcome-none : (machine : IsolationMachine) (reads : Option ReadSet) (session : ℕ) (act : Act) (own : Answer) (told : Said) (after : IsolationMachine) → transaction_of session machine ≡ None
+    → step_with machine reads (asks session act) ≡ step machine (asks session act) → (step machine (asks session act)).0 ≡ own → (own ≡ answer.Accepted → ⊥)
+    → (outcome : Outcome) → Tells outcome told → Allows machine reads (asks session act) outcome after → told ≡ said_of own
+outcome-none machine reads session act own told after none same is apart (Answered a) tells allows =
+    let e : a ≡ own = sym (ap (λ (p : Answer × IsolationMachine). p.0) (sym same ∙ allows)) ∙ is in tells ∙ ap said_of e
+outcome-none machine reads session act own told after none same is apart Freezing tells allows = absurd (apart (sym is ∙ allows.1))
+outcome-none machine reads session act own told after none same is apart Full tells allows = absurd (apart (sym is ∙ allows.1))
+outcome-none machine reads session act own told after none same is apart Memory tells allows = absurd (nothing-open (transaction_of session machine) none allows.1)
 
 -- The answer that there is no transaction accepts no write.
 not-accepted : answer.NoTransaction ≡ answer.Accepted → ⊥
@@ -146,27 +168,32 @@ not-begun n h = (let never : ⊥ = cc in never)
 
 -- what is told without a transaction
 abbrev ToldOutside : Command → Said → Type 0
-ToldOutside asked told = (told ≡ said.NoTransaction) ⊎ ((asked ≡ command.Begin) × ((n : ℕ) × (told ≡ said.At n)))
+ToldOutside asked told = (told ≡ said.NoTransaction) ⊎ ((checked : Bool) × (asked ≡ command.Begin checked) × ((n : ℕ) × (told ≡ said.At n)))
 
 -- One without a transaction who asks no upkeep is told so, or begins one.
 takes-outside : (tables : List TableDecl) (front : List Entry) (machine : IsolationMachine) (entry : Entry) (after : IsolationMachine) (who : Who) (asked : Command)
     → entry.command ≡ asked → entry.reply.who ≡ who → open_of who machine ≡ None → is_upkeep asked ≡ false → TakesAs tables front machine entry after (request_of who asked) → ToldOutside asked entry.reply.said
-takes-outside tables front machine entry after (Session session) command.Begin is is_who none no_upkeep h =
-    inr (refl, (length machine.history, outcome-none machine session act.Begin (answer.At (length machine.history)) entry.reply.said after none (ap (λ (f : Option Transaction). (step_of machine (asks session act.Begin) f).0) none) (not-begun (length machine.history)) h.outcome h.tells h.allows))
+takes-outside tables front machine entry after (Session session) (command.Begin checked) is is_who none no_upkeep h =
+    inr (checked, refl, (length machine.history, outcome-none machine (reads_after (thread entry.reply.who front)) session (act.Begin checked) (answer.At (length machine.history)) entry.reply.said after none refl (ap (λ (f : Option Transaction). (step_of machine (asks session (act.Begin checked)) f).0) none) (not-begun (length machine.history)) h.outcome h.tells h.allows))
 takes-outside tables front machine entry after (Session session) (command.Get table key) is is_who none no_upkeep h =
-    inl (outcome-none machine session (act.Get table key) answer.NoTransaction entry.reply.said after none (ap (λ (f : Option Transaction). (step_of machine (asks session (act.Get table key)) f).0) none) not-accepted h.outcome h.tells h.allows)
+    inl (outcome-none machine (reads_after (thread entry.reply.who front)) session (act.Get table key) answer.NoTransaction entry.reply.said after none refl (ap (λ (f : Option Transaction). (step_of machine (asks session (act.Get table key)) f).0) none) not-accepted h.outcome h.tells h.allows)
 takes-outside tables front machine entry after (Session session) (command.Scan table) is is_who none no_upkeep h =
-    inl (outcome-none machine session (act.Scan table) answer.NoTransaction entry.reply.said after none (ap (λ (f : Option Transaction). (step_of machine (asks session (act.Scan table)) f).0) none) not-accepted h.outcome h.tells h.allows)
+    inl (outcome-none machine (reads_after (thread entry.reply.who front)) session (act.Scan table) answer.NoTransaction entry.reply.said after none refl (ap (λ (f : Option Transaction). (step_of machine (asks session (act.Scan table)) f).0) none) not-accepted h.outcome h.tells h.allows)
+takes-outside tables front machine entry after (Session session) (command.Range table low high) is is_who none no_upkeep h =
+    inl (outcome-none machine (reads_after (thread entry.reply.who front)) session (act.Range table low high) answer.NoTransaction entry.reply.said after none refl (ap (λ (f : Option Transaction). (step_of machine (asks session (act.Range table low high)) f).0) none) not-accepted h.outcome h.tells h.allows)
+takes-outside tables front machine entry after (Session session) (command.Total table column low high) is is_who none no_upkeep h =
+    inl (outcome-none machine (reads_after (thread entry.reply.who front)) session (act.Total table column low high) answer.NoTransaction entry.reply.said after none refl (ap (λ (f : Option Transaction). (step_of machine (asks session (act.Total table column low high)) f).0) none) not-accepted h.outcome h.tells h.allows)
 takes-outside tables front machine entry after (Session session) (command.Insert table row) is is_who none no_upkeep h =
-    inl (outcome-none machine session (act.Insert table row) answer.NoTransaction entry.reply.said after none (ap (λ (f : Option Transaction). (step_of machine (asks session (act.Insert table row)) f).0) none) not-accepted h.outcome h.tells h.allows)
+    inl (outcome-none machine (reads_after (thread entry.reply.who front)) session (act.Insert table row) answer.NoTransaction entry.reply.said after none refl (ap (λ (f : Option Transaction). (step_of machine (asks session (act.Insert table row)) f).0) none) not-accepted h.outcome h.tells h.allows)
 takes-outside tables front machine entry after (Session session) (command.Update table row) is is_who none no_upkeep h =
-    inl (outcome-none machine session (act.Update table row) answer.NoTransaction entry.reply.said after none (ap (λ (f : Option Transaction). (step_of machine (asks session (act.Update table row)) f).0) none) not-accepted h.outcome h.tells h.allows)
+    inl (outcome-none machine (reads_after (thread entry.reply.who front)) session (act.Update table row) answer.NoTransaction entry.reply.said after none refl (ap (λ (f : Option Transaction). (step_of machine (asks session (act.Update table row)) f).0) none) not-accepted h.outcome h.tells h.allows)
 takes-outside tables front machine entry after (Session session) (command.Delete table key) is is_who none no_upkeep h =
-    inl (outcome-none machine session (act.Delete table key) answer.NoTransaction entry.reply.said after none (ap (λ (f : Option Transaction). (step_of machine (asks session (act.Delete table key)) f).0) none) not-accepted h.outcome h.tells h.allows)
+    inl (outcome-none machine (reads_after (thread entry.reply.who front)) session (act.Delete table key) answer.NoTransaction entry.reply.said after none refl (ap (λ (f : Option Transaction). (step_of machine (asks session (act.Delete table key)) f).0) none) not-accepted h.outcome h.tells h.allows)
 takes-outside tables front machine entry after (Session session) command.Commit is is_who none no_upkeep h =
-    inl (outcome-none machine session act.Commit answer.NoTransaction entry.reply.said after none (ap (λ (f : Option Transaction). (step_of machine (asks session act.Commit) f).0) none) not-accepted h.outcome h.tells h.allows)
+    inl (outcome-none machine (reads_after (thread entry.reply.who front)) session act.Commit answer.NoTransaction entry.reply.said after none
+    (commit-stands machine (reads_after (thread entry.reply.who front)) session (stale-closed machine (reads_after (thread entry.reply.who front)) session none)) (ap (λ (f : Option Transaction). (step_of machine (asks session act.Commit) f).0) none) not-accepted h.outcome h.tells h.allows)
 takes-outside tables front machine entry after (Session session) command.Abort is is_who none no_upkeep h =
-    inl (outcome-none machine session act.Abort answer.NoTransaction entry.reply.said after none (ap (λ (f : Option Transaction). (step_of machine (asks session act.Abort) f).0) none) not-accepted h.outcome h.tells h.allows)
+    inl (outcome-none machine (reads_after (thread entry.reply.who front)) session act.Abort answer.NoTransaction entry.reply.said after none refl (ap (λ (f : Option Transaction). (step_of machine (asks session act.Abort) f).0) none) not-accepted h.outcome h.tells h.allows)
 takes-outside tables front machine entry after (Session session) (command.Export table) is is_who none no_upkeep h =
     let aside : Aside tables front machine entry.reply.who (command.Export table) entry.reply.said = subst (λ (c : Command). Aside tables front machine entry.reply.who c entry.reply.said) is h.0 in
     inl (subst (λ (found : Option Transaction). ExportsBy tables front machine found table entry.reply.said) (ap (λ (w : Who). open_of w machine) is_who ∙ none) aside)
@@ -187,7 +214,7 @@ begin-outside _ h = absurd h
 
 -- Each reply that may stand without a transaction is told without one.
 without-outside : (asked : Command) (told : Said) → IsReplyWithout asked told → outside told ≡ true
-without-outside command.Begin told h = begin-outside told h
+without-outside (command.Begin checked) told h = begin-outside told h
 without-outside command.Observe told h = absurd h
 without-outside command.Prune told h = absurd h
 without-outside (command.Compact table) told h = absurd h
@@ -197,7 +224,7 @@ without-outside asked told h = ap outside h
 
 -- In a transaction, a command that is no upkeep is not told that there is none.
 within-not : (asked : Command) → is_upkeep asked ≡ false → IsReplyWithin asked said.NoTransaction → ⊥
-within-not command.Begin up h = (let never : ⊥ = cc in never)
+within-not (command.Begin checked) up h = (let never : ⊥ = cc in never)
 within-not command.Abort up h = (let never : ⊥ = cc in never)
 within-not command.Observe up h = (let never : ⊥ = cc in never)
 within-not command.Prune up h = (let never : ⊥ = cc in never)
@@ -210,8 +237,8 @@ within-not asked up h = h
 outside-not : (asked : Command) (told : Said) → is_upkeep asked ≡ false → ToldOutside asked told → IsReplyWithin asked told → ⊥
 outside-not asked told up (inl is) h = within-not asked up (subst (IsReplyWithin asked) is h)
 outside-not asked told up (inr is) h =
-    let e : told ≡ said.InTransaction = subst (λ (c : Command). IsReplyWithin c told) is.0 h in
-    let f : said.At is.1.0 ≡ said.InTransaction = sym is.1.1 ∙ e in
+    let e : told ≡ said.InTransaction = subst (λ (c : Command). IsReplyWithin c told) is.1 h in
+    let f : said.At is.2.0 ≡ said.InTransaction = sym is.2.1 ∙ e in
     (let never : ⊥ = cc in never)
 
 -- upkeep is answered as upkeep, in a transaction or not
@@ -318,6 +345,8 @@ module _ (tables : List TableDecl) (printed timeline : List Entry) (t : Timeline
       upkeep-fits : (asked : Command) → is_upkeep asked ≡ true → RowsFit tables asked told
       upkeep-fits (command.Get table key) up = absurd (let never : ⊥ = cc in never)
       upkeep-fits (command.Scan table) up = absurd (let never : ⊥ = cc in never)
+      upkeep-fits (command.Range table low high) up = absurd (let never : ⊥ = cc in never)
+      upkeep-fits command.Commit up = absurd (let never : ⊥ = cc in never)
       upkeep-fits _ up = tt
 
   -- Replies from one on, each at its place, answer what is due in their states.
@@ -348,9 +377,9 @@ all-valid tables earlier (due ∷ dues) (Some told ∷ answers) each = (shown-va
 
 -- Replies of a timeline stand in the right states, in whatever order they came about, with rows of
 -- their tables.
-pub timeline-replies : (script : Script) (told : List (Option Said)) (timeline : List Entry) → EachDue script.tables (dues_of script) → AllMayStand (dues_of script) told
+pub timeline-replies : (script : Script) (told : List (Option Said)) (timeline : List Entry) → AreNamed script.tables → EachDue script.tables (dues_of script) → AllMayStand (dues_of script) told
     → Timeline script.tables (printed_of script told) timeline → AreReplies script.tables [] (dues_of script) told
-timeline-replies script told timeline each h t =
+timeline-replies script told timeline named each h t =
     let printed = printed_of script told in
     all-from script.tables printed timeline t (printed-in-order script told) [] (dues_of script) told each refl h (all-facts script.tables printed timeline t)
-    (printed-rows-fit script.tables printed timeline t (all-valid script.tables [] (dues_of script) told each))
+    (printed-rows-fit script.tables named printed timeline t (all-valid script.tables [] (dues_of script) told each))

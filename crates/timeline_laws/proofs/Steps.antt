@@ -7,9 +7,12 @@ use Rattle.std.proofs.lemmas.List.{length-drop}
 use Rattle.std.proofs.lemmas.Bool.Decides.{nat_tests}
 use Rattle.cell_model.specs.declared.cell.Cell.{Cell}
 use Rattle.cell_model.specs.declared.table.TableDecl.{TableDecl}
-use Rattle.isolation_spec.specs.Contents.{at_place, place_at, place_of, contents_of, WriteSet}
+use Rattle.isolation_spec.specs.Checked.{step_with, stale_of}
+use Rattle.isolation_spec.specs.Contents.{at_place, place_at, place_of, contents_of, contents_between, numbers_between, WriteSet}
+use Rattle.isolation_spec.specs.Reads.{ReadSet, meets}
+use Rattle.isolation_spec.specs.declared.read.Read.{Read}
 use Rattle.isolation_spec.specs.declared.place.Place.{Place}
-use Rattle.isolation_spec.specs.Machine.{IsolationMachine, Transaction, transaction_of, seen_rows, rival_of, refusal_of_insert, refusal_of_change, with_own, without, commit, step, step_of, later_writers}
+use Rattle.isolation_spec.specs.Machine.{IsolationMachine, Transaction, transaction_of, seen_rows, rival_of, refusal_of_insert, refusal_of_change, with_own, without, commit, step, step_of, later_writers, told_total, writes_place}
 use Rattle.isolation_spec.specs.Store.{Outcome, Answered, Freezing, Full, Memory, Allows}
 use Rattle.isolation_spec.specs.declared.command.Command.{Command as Request}
 use Rattle.isolation_spec.specs.declared.command.Act.{Act}
@@ -22,13 +25,17 @@ use Rattle.workload_spec.specs.declared.reply.Who.{Who}
 use Rattle.workload_spec.specs.declared.reply.Who.TheVariants.{Session, Worker}
 use Rattle.workload_spec.specs.declared.reply.Said.{Said}
 use Rattle.workload_spec.specs.declared.reply.Said.TheVariants as said
-use Rattle.outcome_spec.specs.Entries.{Entry, snapshot_in, commit_in, is_end, is_accepted}
+use Rattle.outcome_spec.specs.Stale.{reads_after}
+use Rattle.outcome_spec.specs.Entries.{Entry, thread, snapshot_in, commit_in, is_end, is_accepted}
 use Rattle.outcome_spec.specs.Runs.{write_of}
 use Rattle.outcome_spec.specs.Numbers.{number_shown}
 use Rattle.outcome_spec.specs.Answers.{is_acceptable}
+use Rattle.timeline_spec.specs.Timeline.{stale_of as stale_named}
 use Rattle.timeline_spec.specs.Timeline.{said_of, request_of, Tells, open_of, ExportsBy, ExportsWithin, is_of_upkeep, Aside, TakesAs, Takes}
-use Rattle.isolation_laws.proofs.Later.{last_writer, last-later}
+use Rattle.isolation_laws.proofs.Checked.{commit-stands, commit-refused, stale-open, stale-closed}
+use Rattle.isolation_laws.proofs.Later.{last_passing, last_writer, last-commit, last-later}
 use Rattle.timeline_laws.proofs.Writers.{last-some}
+use Rattle.timeline_laws.proofs.Refused.{Refused, refused-is, meets-none}
 use Rattle.timeline_laws.proofs.Machine.{Sane, begun, committed, its-session}
 
 -- what is written where the write is accepted
@@ -54,7 +61,8 @@ pub record Quiet (asked : Command) (told : Said) (machine after : IsolationMachi
   pub same : after ≡ machine
 
 pub record Opens (who : Who) (asked : Command) (told : Said) (machine after : IsolationMachine) : Type 0 where
-  pub asked_is : asked ≡ command.Begin
+  pub checked : Bool
+  pub asked_is : asked ≡ command.Begin checked
   pub session : ℕ
   pub who_is : who ≡ Session session
   pub none : transaction_of session machine ≡ None
@@ -189,21 +197,22 @@ abbrev pub asks : ℕ → Act → Request
 asks session act = record { session = session; act = act }
 
 -- Where the machine's answer to a write is a verdict, each outcome is one.
-outcome-verdict : (machine : IsolationMachine) (session : ℕ) (act : Act) (t : Transaction) (place : Place) (acceptable : Bool) (own : Answer) (told : Said) (after : IsolationMachine)
+outcome-verdict : (machine : IsolationMachine) (reads : Option ReadSet) (session : ℕ) (act : Act) (t : Transaction) (place : Place) (acceptable : Bool) (own : Answer) (told : Said) (after : IsolationMachine)
+    → step_with machine reads (asks session act) ≡ step machine (asks session act)
     → (step machine (asks session act)).0 ≡ own → Verdict machine t place acceptable (said_of own)
-    → (outcome : Outcome) → Tells outcome told → Allows machine (asks session act) outcome after → Verdict machine t place acceptable told
-outcome-verdict machine session act t place acceptable own told after is v (Answered a) tells allows =
-    let e : a ≡ own = sym (ap (λ (p : Answer × IsolationMachine). p.0) allows) ∙ is in
+    → (outcome : Outcome) → Tells outcome told → Allows machine reads (asks session act) outcome after → Verdict machine t place acceptable told
+outcome-verdict machine reads session act t place acceptable own told after same is v (Answered a) tells allows =
+    let e : a ≡ own = sym (ap (λ (p : Answer × IsolationMachine). p.0) (sym same ∙ allows)) ∙ is in
     subst (Verdict machine t place acceptable) (sym (tells ∙ ap said_of e)) v
-outcome-verdict machine session act t place acceptable own told after is v Freezing tells allows =
+outcome-verdict machine reads session act t place acceptable own told after same is v Freezing tells allows =
     let e : own ≡ answer.Accepted = sym is ∙ allows.1 in
     let free = clear-accepted machine t place acceptable (subst (λ (a : Answer). Verdict machine t place acceptable (said_of a)) e v) in
     limited free.0 free.1 (inr tells)
-outcome-verdict machine session act t place acceptable own told after is v Full tells allows =
+outcome-verdict machine reads session act t place acceptable own told after same is v Full tells allows =
     let e : own ≡ answer.Accepted = sym is ∙ allows.1 in
     let free = clear-accepted machine t place acceptable (subst (λ (a : Answer). Verdict machine t place acceptable (said_of a)) e v) in
     limited free.0 free.1 (inl tells)
-outcome-verdict machine session act t place acceptable own told after is v Memory tells allows = memory tells
+outcome-verdict machine reads session act t place acceptable own told after same is v Memory tells allows = memory tells
 
 -- the verdict of a reply to a write in a transaction
 pub takes-verdict : (tables : List TableDecl) (front : List Entry) (machine : IsolationMachine) (session : ℕ) (t : Transaction) (asked : Command) (told : Said) (after : IsolationMachine) (entry : Entry)
@@ -214,19 +223,19 @@ pub takes-verdict : (tables : List TableDecl) (front : List Entry) (machine : Is
 takes-verdict tables front machine session t (command.Insert table row) told after entry place change is_asked is_told at is h =
     let e : place_of table row ≡ place = ap (λ (o : Option (Place × Option (List Cell))). option_map_or (λ w. w.0) o place) is in
     subst (λ (p : Place). Verdict machine t p (is_acceptable (seen_rows machine t) (command.Insert table row)) told) e
-    (outcome-verdict machine session (act.Insert table row) t (place_of table row) (is_acceptable (seen_rows machine t) (command.Insert table row)) (unwrap_or (refusal_of_insert machine t (place_of table row)) answer.Accepted) told after
+    (outcome-verdict machine (reads_after (thread entry.reply.who front)) session (act.Insert table row) t (place_of table row) (is_acceptable (seen_rows machine t) (command.Insert table row)) (unwrap_or (refusal_of_insert machine t (place_of table row)) answer.Accepted) told after refl
     (ap (λ (o : Option Transaction). (step_of machine (asks session (act.Insert table row)) o).0) at) (insert-verdict machine t table row)
     h.outcome (subst (Tells h.outcome) is_told h.tells) h.allows)
 takes-verdict tables front machine session t (command.Update table row) told after entry place change is_asked is_told at is h =
     let e : place_of table row ≡ place = ap (λ (o : Option (Place × Option (List Cell))). option_map_or (λ w. w.0) o place) is in
     subst (λ (p : Place). Verdict machine t p (is_acceptable (seen_rows machine t) (command.Update table row)) told) e
-    (outcome-verdict machine session (act.Update table row) t (place_of table row) (is_acceptable (seen_rows machine t) (command.Update table row)) (unwrap_or (refusal_of_change machine t (place_of table row)) answer.Accepted) told after
+    (outcome-verdict machine (reads_after (thread entry.reply.who front)) session (act.Update table row) t (place_of table row) (is_acceptable (seen_rows machine t) (command.Update table row)) (unwrap_or (refusal_of_change machine t (place_of table row)) answer.Accepted) told after refl
     (ap (λ (o : Option Transaction). (step_of machine (asks session (act.Update table row)) o).0) at) (change-verdict machine t (place_of table row))
     h.outcome (subst (Tells h.outcome) is_told h.tells) h.allows)
 takes-verdict tables front machine session t (command.Delete table key) told after entry place change is_asked is_told at is h =
     let e : place_at table key ≡ place = ap (λ (o : Option (Place × Option (List Cell))). option_map_or (λ w. w.0) o place) is in
     subst (λ (p : Place). Verdict machine t p (is_acceptable (seen_rows machine t) (command.Delete table key)) told) e
-    (outcome-verdict machine session (act.Delete table key) t (place_at table key) (is_acceptable (seen_rows machine t) (command.Delete table key)) (unwrap_or (refusal_of_change machine t (place_at table key)) answer.Accepted) told after
+    (outcome-verdict machine (reads_after (thread entry.reply.who front)) session (act.Delete table key) t (place_at table key) (is_acceptable (seen_rows machine t) (command.Delete table key)) (unwrap_or (refusal_of_change machine t (place_at table key)) answer.Accepted) told after refl
     (ap (λ (o : Option Transaction). (step_of machine (asks session (act.Delete table key)) o).0) at) (change-verdict machine t (place_at table key))
     h.outcome (subst (Tells h.outcome) is_told h.tells) h.allows)
 takes-verdict tables front machine session t _ told after entry place change is_asked is_told at is h = absurd (let never : ⊥ = cc in never)
@@ -239,15 +248,27 @@ module _ (asked : Command) (machine : IsolationMachine) where
   quietly : (told : Said) → snapshot_in told ≡ None → is_end told ≡ false → commit_in told ≡ None → accepts asked told ≡ None → shows_at_most (length machine.history) told ≡ true → Quiet asked told machine machine
   quietly told a b c d e = record { opens = a; on = b; commit = c; writes = d; shown = e; same = refl }
 
-  -- a reply that names a commit behind the snapshot leaves the machine as it is
-  pub conflict-quiet : (t : Transaction) (place : Place) (k : ℕ) → t.snapshot ≤ length machine.history
-      → last_writer place (t.snapshot + 1) (drop t.snapshot machine.history) ≡ Some k → Quiet asked (said.ConflictCommit k) machine machine
-  conflict-quiet t place k bound is =
-      let at = last-some place (t.snapshot + 1) (drop t.snapshot machine.history) k is in
+  -- the number of a commit behind the snapshot is not above the commits
+  last-low : (t : Transaction) (test : WriteSet → Bool) (empty : test [] ≡ false) (k : ℕ) → t.snapshot ≤ length machine.history
+      → last_passing test (t.snapshot + 1) (drop t.snapshot machine.history) ≡ Some k → nat_le k (length machine.history) ≡ true
+  last-low t test empty k bound is =
+      let at = last-some test empty (t.snapshot + 1) (drop t.snapshot machine.history) k is in
       let inside : at.index < length (drop t.snapshot machine.history) = at.inside in
       let size : length (drop t.snapshot machine.history) + t.snapshot ≡ length machine.history = omega (arith, length-drop t.snapshot machine.history, bound) in
       let low : k ≤ length machine.history = omega (arith, at.number_is, inside, size) in
-      quietly (said.ConflictCommit k) refl refl refl refl (let e : nat_le k (length machine.history) ≡ true = grind (arith, nat_tests, low) in e)
+      (let e : nat_le k (length machine.history) ≡ true = grind (arith, nat_tests, low) in e)
+
+  -- a reply that names a commit behind the snapshot leaves the machine as it is
+  pub conflict-quiet : (t : Transaction) (place : Place) (k : ℕ) → t.snapshot ≤ length machine.history
+      → last_writer place (t.snapshot + 1) (drop t.snapshot machine.history) ≡ Some k → Quiet asked (said.ConflictCommit k) machine machine
+  conflict-quiet t place k bound is = quietly (said.ConflictCommit k) refl refl refl refl (last-low t (writes_place place) refl k bound is)
+
+  -- so does a commit that is refused for a read
+  refused-quiet : (t : Transaction) (reads : Option ReadSet) (stale : Read × ℕ) → t.snapshot ≤ length machine.history → Refused machine t reads stale
+      → Quiet asked (said_of (answer.Stale stale.0 stale.1)) machine machine
+  refused-quiet t reads stale bound r =
+      quietly (said.Stale (stale_named stale.0) stale.1) refl refl refl refl
+      (last-low t (meets stale.0) (meets-none stale.0) stale.1 bound (sym (last-commit machine.history t.snapshot (meets stale.0)) ∙ r.found.last))
 
 module _ (asked : Command) (machine : IsolationMachine) (sane : Sane machine) (session : ℕ) (t : Transaction) (at : transaction_of session machine ≡ Some t) where
   -- The transaction that is found for the session is the session's.
@@ -321,9 +342,9 @@ module _ (machine : IsolationMachine) (sane : Sane machine) (session : ℕ) wher
       (quietly (command.Delete table key) machine said.Missing refl refl refl refl refl) refl (sym (last-later machine.history t.snapshot (place_at table key)))
 
   -- The machine's own step of a begin is such a change.
-  begin-stepped : (found : Option Transaction) → transaction_of session machine ≡ found → Stepped command.Begin act.Begin found
-  begin-stepped None at = opens (record { asked_is = refl; session = session; who_is = refl; none = at; said_is = refl; is = refl })
-  begin-stepped (Some t) at = quiet (quietly command.Begin machine said.InTransaction refl refl refl refl refl)
+  begin-stepped : (checked : Bool) (found : Option Transaction) → transaction_of session machine ≡ found → Stepped (command.Begin checked) (act.Begin checked) found
+  begin-stepped checked None at = opens (record { checked = checked; asked_is = refl; session = session; who_is = refl; none = at; said_is = refl; is = refl })
+  begin-stepped checked (Some t) at = quiet (quietly (command.Begin checked) machine said.InTransaction refl refl refl refl refl)
 
   -- The machine's own step of a commit is such a change.
   commit-stepped : (found : Option Transaction) → transaction_of session machine ≡ found → Stepped command.Commit act.Commit found
@@ -345,19 +366,45 @@ module _ (machine : IsolationMachine) (sane : Sane machine) (session : ℕ) wher
   scan-stepped table None = untold (command.Scan table)
   scan-stepped table (Some t) = quiet (quietly (command.Scan table) machine (said.Scanned (contents_of table (seen_rows machine t))) refl refl refl refl refl)
 
+  -- The machine's own step of a range is such a change.
+  range-stepped : (table : ℕ) (low high : ℤ) (found : Option Transaction) → Stepped (command.Range table low high) (act.Range table low high) found
+  range-stepped table low high None = untold (command.Range table low high)
+  range-stepped table low high (Some t) =
+      quiet (quietly (command.Range table low high) machine (said.Scanned (contents_between table low high (seen_rows machine t))) refl refl refl refl refl)
+
+  -- The machine's own step of a total is such a change.
+  total-stepped : (table column : ℕ) (low high : ℤ) (found : Option Transaction) → Stepped (command.Total table column low high) (act.Total table column low high) found
+  total-stepped table column low high None = untold (command.Total table column low high)
+  total-stepped table column low high (Some t) =
+      quiet (quietly (command.Total table column low high) machine (said_of (told_total (numbers_between column low high (contents_of table (seen_rows machine t))))) refl refl refl refl refl)
+
+  -- What the machine answers and leaves is such a change as its answer tells.
+  abbrev Told : Command → Answer × IsolationMachine → Type 0
+  Told asked p = Change (Session session) asked (said_of p.0) machine p.1
+
+  -- A commit that hands in reads is refused and changes nothing, or is the machine's.
+  commit-with : (reads : Option ReadSet) (stale : Option (Read × ℕ)) (found : Option Transaction) → stale_of machine reads session act.Commit ≡ stale → transaction_of session machine ≡ found
+      → Told command.Commit (step_with machine reads (asks session act.Commit))
+  commit-with reads None found is at =
+      subst (Told command.Commit) (sym (commit-stands machine reads session is)) (commit-stepped (transaction_of session machine) refl)
+  commit-with reads (Some stale) None is at = absurd (let e : None ≡ Some stale = sym (stale-closed machine reads session at) ∙ is in let never : ⊥ = cc in never)
+  commit-with reads (Some stale) (Some t) is at =
+      subst (Told command.Commit) (sym (commit-refused machine reads session stale is))
+      (quiet (refused-quiet command.Commit machine t reads stale (sane.bound session t at) (refused-is machine t t.own reads stale refl (sym (stale-open machine reads session t at) ∙ is))))
+
   -- the change of an answer of a store over the machine
-  outcome-change : (asked : Command) (act : Act) (told : Said) (after : IsolationMachine) → Stepped asked act (transaction_of session machine)
-      → (outcome : Outcome) → Tells outcome told → Allows machine (asks session act) outcome after → Change (Session session) asked told machine after
-  outcome-change asked act told after stepped (Answered a) tells allows =
+  outcome-change : (reads : Option ReadSet) (asked : Command) (act : Act) (told : Said) (after : IsolationMachine) → Told asked (step_with machine reads (asks session act))
+      → (outcome : Outcome) → Tells outcome told → Allows machine reads (asks session act) outcome after → Change (Session session) asked told machine after
+  outcome-change reads asked act told after stepped (Answered a) tells allows =
       subst (λ (s : Said). Change (Session session) asked s machine after) (sym tells)
-      (subst (λ (p : Answer × IsolationMachine). Change (Session session) asked (said_of p.0) machine p.1) allows stepped)
-  outcome-change asked act told after stepped Freezing tells allows =
+      (subst (Told asked) allows stepped)
+  outcome-change reads asked act told after stepped Freezing tells allows =
       subst (λ (m : IsolationMachine). Change (Session session) asked told machine m) (sym allows.2)
       (subst (λ (s : Said). Change (Session session) asked s machine machine) (sym tells.3) (quiet (quietly asked machine (said.Freezing tells.0 tells.1 tells.2) refl refl refl refl refl)))
-  outcome-change asked act told after stepped Full tells allows =
+  outcome-change reads asked act told after stepped Full tells allows =
       subst (λ (m : IsolationMachine). Change (Session session) asked told machine m) (sym allows.2)
       (subst (λ (s : Said). Change (Session session) asked s machine machine) (sym tells) (quiet (quietly asked machine said.Full refl refl refl refl refl)))
-  outcome-change asked act told after stepped Memory tells allows =
+  outcome-change reads asked act told after stepped Memory tells allows =
       subst (λ (m : IsolationMachine). Change (Session session) asked told machine m) (sym allows.2)
       (subst (λ (s : Said). Change (Session session) asked s machine machine) (sym tells) (quiet (quietly asked machine said.Memory refl refl refl refl refl)))
 
@@ -404,22 +451,27 @@ module _ (tables : List TableDecl) (front : List Entry) (machine : IsolationMach
   pub takes-change : (number round index : ℕ) (who : Who) (asked : Command) (told : Said) (after : IsolationMachine)
       → Takes tables front machine (record { number = number; command = asked; reply = record { round = round; who = who; index = index; said = told } }) after → Change who asked told machine after
   takes-change number round index (Worker worker) asked told after h = aside-change (Worker worker) asked told after h
-  takes-change number round index (Session session) command.Begin told after h =
-      outcome-change machine sane session command.Begin act.Begin told after (begin-stepped machine sane session (transaction_of session machine) refl) h.outcome h.tells h.allows
+  takes-change number round index (Session session) (command.Begin checked) told after h =
+      outcome-change machine sane session (reads_after (thread (Session session) front)) (command.Begin checked) (act.Begin checked) told after (begin-stepped machine sane session checked (transaction_of session machine) refl) h.outcome h.tells h.allows
   takes-change number round index (Session session) (command.Get table key) told after h =
-      outcome-change machine sane session (command.Get table key) (act.Get table key) told after (get-stepped machine sane session table key (transaction_of session machine)) h.outcome h.tells h.allows
+      outcome-change machine sane session (reads_after (thread (Session session) front)) (command.Get table key) (act.Get table key) told after (get-stepped machine sane session table key (transaction_of session machine)) h.outcome h.tells h.allows
   takes-change number round index (Session session) (command.Scan table) told after h =
-      outcome-change machine sane session (command.Scan table) (act.Scan table) told after (scan-stepped machine sane session table (transaction_of session machine)) h.outcome h.tells h.allows
+      outcome-change machine sane session (reads_after (thread (Session session) front)) (command.Scan table) (act.Scan table) told after (scan-stepped machine sane session table (transaction_of session machine)) h.outcome h.tells h.allows
+  takes-change number round index (Session session) (command.Range table low high) told after h =
+      outcome-change machine sane session (reads_after (thread (Session session) front)) (command.Range table low high) (act.Range table low high) told after (range-stepped machine sane session table low high (transaction_of session machine)) h.outcome h.tells h.allows
+  takes-change number round index (Session session) (command.Total table column low high) told after h =
+      outcome-change machine sane session (reads_after (thread (Session session) front)) (command.Total table column low high) (act.Total table column low high) told after (total-stepped machine sane session table column low high (transaction_of session machine)) h.outcome h.tells h.allows
   takes-change number round index (Session session) (command.Insert table row) told after h =
-      outcome-change machine sane session (command.Insert table row) (act.Insert table row) told after (insert-stepped machine sane session table row (transaction_of session machine) refl) h.outcome h.tells h.allows
+      outcome-change machine sane session (reads_after (thread (Session session) front)) (command.Insert table row) (act.Insert table row) told after (insert-stepped machine sane session table row (transaction_of session machine) refl) h.outcome h.tells h.allows
   takes-change number round index (Session session) (command.Update table row) told after h =
-      outcome-change machine sane session (command.Update table row) (act.Update table row) told after (update-stepped machine sane session table row (transaction_of session machine) refl) h.outcome h.tells h.allows
+      outcome-change machine sane session (reads_after (thread (Session session) front)) (command.Update table row) (act.Update table row) told after (update-stepped machine sane session table row (transaction_of session machine) refl) h.outcome h.tells h.allows
   takes-change number round index (Session session) (command.Delete table key) told after h =
-      outcome-change machine sane session (command.Delete table key) (act.Delete table key) told after (delete-stepped machine sane session table key (transaction_of session machine) refl) h.outcome h.tells h.allows
+      outcome-change machine sane session (reads_after (thread (Session session) front)) (command.Delete table key) (act.Delete table key) told after (delete-stepped machine sane session table key (transaction_of session machine) refl) h.outcome h.tells h.allows
   takes-change number round index (Session session) command.Commit told after h =
-      outcome-change machine sane session command.Commit act.Commit told after (commit-stepped machine sane session (transaction_of session machine) refl) h.outcome h.tells h.allows
+      outcome-change machine sane session (reads_after (thread (Session session) front)) command.Commit act.Commit told after (commit-with machine sane session (reads_after (thread (Session session) front)) (stale_of machine (reads_after (thread (Session session) front)) session act.Commit) (transaction_of session machine) refl refl)
+      h.outcome h.tells h.allows
   takes-change number round index (Session session) command.Abort told after h =
-      outcome-change machine sane session command.Abort act.Abort told after (abort-stepped machine sane session (transaction_of session machine) refl) h.outcome h.tells h.allows
+      outcome-change machine sane session (reads_after (thread (Session session) front)) command.Abort act.Abort told after (abort-stepped machine sane session (transaction_of session machine) refl) h.outcome h.tells h.allows
   takes-change number round index (Session session) command.Observe told after h = aside-change (Session session) command.Observe told after h
   takes-change number round index (Session session) command.Prune told after h = aside-change (Session session) command.Prune told after h
   takes-change number round index (Session session) (command.Compact table) told after h = aside-change (Session session) (command.Compact table) told after h

@@ -1,8 +1,9 @@
 -- What a reply in a transaction sees is what the machine's transaction sees: reads, and writes by
 -- the rows.
-use Rattle.std.proofs.Common.{◌≡◌, ℕ, ◌≤◌, Bool, true, false, cond, not, List, [], ◌∷◌, ◌++◌, length, take, Option, None, Some, refl, sym, ap, ◌∙◌, subst, append-nil, inl, inr, ℤ}
+use Rattle.std.proofs.Common.{◌≡◌, ℕ, ◌≤◌, Bool, true, false, cond, ◌&&◌, not, eqb, List, [], ◌∷◌, ◌++◌, length, take, Option, None, Some, refl, sym, ap, ◌∙◌, subst, append-nil, inl, inr, ℤ}
 use Rattle.std.specs.Prelude.{is_none, fold, bytes_eq}
 use Rattle.std.specs.Option.{option_map_or}
+use Rattle.std.specs.Ordering.{int_eq}
 use Rattle.std.specs.Cmp.{int_eq_equiv}
 use Rattle.std.specs.Cmp.Lexicographic.{pointwise}
 use Rattle.std.specs.List.{filter}
@@ -13,14 +14,18 @@ use Rattle.std.proofs.lemmas.Bool.{and_from}
 use Rattle.cell_model.specs.declared.cell.Cell.{Cell}
 use Rattle.cell_model.specs.declared.cell.Cell.TheVariants.{Null, Num, Truth, Text, Blob}
 use Rattle.cell_model.specs.declared.table.TableDecl.{TableDecl}
-use Rattle.isolation_spec.specs.Contents.{State, WriteSet, History, laid_over, state_at, at_place, place_at, contents_of}
+use Rattle.isolation_spec.specs.Contents.{State, WriteSet, History, laid_over, state_at, at_place, place_at, contents_of, contents_between, numbers_between, sum_of}
+use Rattle.isolation_spec.specs.Checked.{step_with, stale_of}
+use Rattle.isolation_spec.specs.Reads.{ReadSet}
+use Rattle.isolation_spec.specs.declared.read.Read.{Read}
 use Rattle.isolation_spec.specs.declared.place.Place.{Place}
 use Rattle.isolation_spec.specs.declared.command.Act.{Act}
 use Rattle.isolation_spec.specs.declared.command.Act.TheVariants as act
 use Rattle.isolation_spec.specs.declared.command.Answer.{Answer}
 use Rattle.isolation_spec.specs.declared.command.Answer.TheVariants as answer
 use Rattle.isolation_spec.specs.Store.{Outcome, Answered, Freezing, Full, Memory, Allows}
-use Rattle.isolation_spec.specs.Machine.{IsolationMachine, seen_rows, step, step_of, commit, Transaction}
+use Rattle.isolation_spec.specs.Machine.{IsolationMachine, seen_rows, step_of, commit, told_total, Transaction, transaction_of}
+use Rattle.isolation_laws.proofs.Checked.{commit-stands, commit-refused}
 use Rattle.workload_spec.specs.declared.command.Command.{Command}
 use Rattle.workload_spec.specs.declared.command.Command.TheVariants as command
 use Rattle.workload_spec.specs.declared.reply.Who.{Who}
@@ -30,14 +35,15 @@ use Rattle.workload_spec.specs.declared.reply.Said.TheVariants as said
 use Rattle.outcome_spec.specs.Entries.{Entry, is_same, is_before, before, snapshot_in, is_end}
 use Rattle.outcome_spec.specs.Runs.{Span, Run, up_to_end, writes_in, seen_at}
 use Rattle.outcome_spec.specs.Runs.{transaction_of as belongs_to}
-use Rattle.outcome_spec.specs.Answers.{is_cell, is_row, read_holds, reads_hold, is_acceptable, write_holds, writes_hold, got_place, scanned_table}
+use Rattle.outcome_spec.specs.Answers.{is_cell, is_row, is_total_of, read_holds, reads_hold, is_acceptable, write_holds, writes_hold, got_place, rows_asked, numbers_asked}
+use Rattle.outcome_spec.specs.Stale.{reads_after}
 use Rattle.timeline_spec.specs.Timeline.{open_of, Each, Follows, InOrder, Timeline, said_of, Tells, request_of, TakesAs, Aside, ExportsBy, is_of_upkeep}
 use Rattle.outcome_spec.specs.Entries.{thread}
 use Rattle.timeline_laws.proofs.Order.{Each-second, Each-weaker, Each-filter, before-itself, order-front, order-rest, same-is, same-itself}
 use Rattle.timeline_laws.proofs.Spans.{span}
 use Rattle.timeline_laws.proofs.Unique.{Only}
 use Rattle.timeline_laws.proofs.Belongs.{found-open, found-none, its-order, Each-up_to_end}
-use Rattle.timeline_laws.proofs.Machine.{Sane}
+use Rattle.timeline_laws.proofs.Machine.{Sane, eqb-itself}
 use Rattle.timeline_laws.proofs.Steps.{Change, quiet, opens, writes, ends, commits, Verdict, accepted, rival, later, refused, limited, memory, takes-verdict, asks}
 use Rattle.timeline_laws.proofs.Walk.{Within, Stands, ended-unopened}
 use Rattle.timeline_laws.proofs.Cuts.{Cut}
@@ -193,37 +199,52 @@ got-holds seen table key None is = ap is_none is
 got-holds seen table key (Some row) is = ap (λ (o : Option (List Cell)). option_map_or (is_row row) o false) is ∙ row-itself row
 
 -- Where the machine's answer to a read holds, and each refusal, so does each outcome.
-outcome-read : (machine : IsolationMachine) (session : ℕ) (asked : Command) (act : Act) (seen : State) (own : Answer) (told : Said) (after : IsolationMachine)
-    → (step machine (asks session act)).0 ≡ own → read_holds seen asked (said_of own) ≡ true → read_holds seen asked said.Memory ≡ true
-    → (outcome : Outcome) → Tells outcome told → Allows machine (asks session act) outcome after
+outcome-read : (machine : IsolationMachine) (reads : Option ReadSet) (session : ℕ) (asked : Command) (act : Act) (seen : State) (own : Answer) (told : Said) (after : IsolationMachine)
+    → (step_with machine reads (asks session act)).0 ≡ own → read_holds seen asked (said_of own) ≡ true → read_holds seen asked said.Memory ≡ true
+    → (outcome : Outcome) → Tells outcome told → Allows machine reads (asks session act) outcome after
     → ((table : ℕ) (block : ℕ) (stamp : ℕ) → read_holds seen asked (said.Freezing table block stamp) ≡ true) → read_holds seen asked said.Full ≡ true → read_holds seen asked told ≡ true
-outcome-read machine session asked act seen own told after is holds held (Answered a) tells allows f g =
+outcome-read machine reads session asked act seen own told after is holds held (Answered a) tells allows f g =
     let e : a ≡ own = sym (ap (λ (p : Answer × IsolationMachine). p.0) allows) ∙ is in
     ap (read_holds seen asked) (tells ∙ ap said_of e) ∙ holds
-outcome-read machine session asked act seen own told after is holds held Freezing tells allows f g = ap (read_holds seen asked) tells.3 ∙ f tells.0 tells.1 tells.2
-outcome-read machine session asked act seen own told after is holds held Full tells allows f g = ap (read_holds seen asked) tells ∙ g
-outcome-read machine session asked act seen own told after is holds held Memory tells allows f g = ap (read_holds seen asked) tells ∙ held
+outcome-read machine reads session asked act seen own told after is holds held Freezing tells allows f g = ap (read_holds seen asked) tells.3 ∙ f tells.0 tells.1 tells.2
+outcome-read machine reads session asked act seen own told after is holds held Full tells allows f g = ap (read_holds seen asked) tells ∙ g
+outcome-read machine reads session asked act seen own told after is holds held Memory tells allows f g = ap (read_holds seen asked) tells ∙ held
 
--- a command that is no get and no scan shows no rows that are seen
-other-read : (seen : State) (asked : Command) (told : Said) → got_place asked ≡ None → scanned_table asked ≡ None → read_holds seen asked told ≡ true
-other-read seen asked (said.Found row) got scanned = ap (λ (f : Option Place). option_map_or (λ place. option_map_or (is_row row) (at_place seen place) false) f true) got
-other-read seen asked said.Absent got scanned = ap (λ (f : Option Place). option_map_or (λ place. is_none (at_place seen place)) f true) got
-other-read seen asked (said.Scanned rows) got scanned = ap (λ (f : Option ℕ). option_map_or (λ table. pointwise is_row rows (contents_of table seen)) f true) scanned
-other-read seen asked _ got scanned = refl
+-- a total is answered by how many numbers are seen, and their sum
+told-holds : (count : ℕ) (sum : ℤ) → (eqb count count && int_eq sum sum) ≡ true
+told-holds count sum = and_from (eqb count count) (int_eq sum sum) (eqb-itself count) (int_eq_equiv.refl sum)
+
+-- a command that asks for no place, no rows and no numbers shows none that are seen
+other-read : (seen : State) (asked : Command) (told : Said) → got_place asked ≡ None → rows_asked seen asked ≡ None → numbers_asked seen asked ≡ None → read_holds seen asked told ≡ true
+other-read seen asked (said.Found row) got rows numbers = ap (λ (f : Option Place). option_map_or (λ place. option_map_or (is_row row) (at_place seen place) false) f true) got
+other-read seen asked said.Absent got rows numbers = ap (λ (f : Option Place). option_map_or (λ place. is_none (at_place seen place)) f true) got
+other-read seen asked (said.Scanned told) got rows numbers = ap (λ (f : Option (List (List Cell))). option_map_or (λ seen_rows. pointwise is_row told seen_rows) f true) rows
+other-read seen asked (said.Totalled count sum) got rows numbers = ap (λ (f : Option (List ℤ)). option_map_or (is_total_of count sum) f true) numbers
+other-read seen asked _ got rows numbers = refl
 
 -- A reply in a transaction shows what its transaction sees.
 takes-read : (tables : List TableDecl) (front : List Entry) (machine : IsolationMachine) (entry : Entry) (after : IsolationMachine) (who : Who) (asked : Command) (o : Transaction)
     → entry.command ≡ asked → open_of who machine ≡ Some o → TakesAs tables front machine entry after (request_of who asked) → read_holds (seen_rows machine o) asked entry.reply.said ≡ true
 takes-read tables front machine entry after (Worker worker) asked o is at h = absurd (let never : ⊥ = cc in never)
 takes-read tables front machine entry after (Session session) (command.Get table key) o is at h =
-    outcome-read machine session (command.Get table key) (act.Get table key) (seen_rows machine o) (answer.Found (at_place (seen_rows machine o) (place_at table key))) entry.reply.said after
+    outcome-read machine (reads_after (thread entry.reply.who front)) session (command.Get table key) (act.Get table key) (seen_rows machine o) (answer.Found (at_place (seen_rows machine o) (place_at table key))) entry.reply.said after
     (ap (λ (f : Option Transaction). (step_of machine (asks session (act.Get table key)) f).0) at)
     (got-holds (seen_rows machine o) table key (at_place (seen_rows machine o) (place_at table key)) refl) refl h.outcome h.tells h.allows (λ t b s. refl) refl
 takes-read tables front machine entry after (Session session) (command.Scan table) o is at h =
-    outcome-read machine session (command.Scan table) (act.Scan table) (seen_rows machine o) (answer.Rows (contents_of table (seen_rows machine o))) entry.reply.said after
+    outcome-read machine (reads_after (thread entry.reply.who front)) session (command.Scan table) (act.Scan table) (seen_rows machine o) (answer.Rows (contents_of table (seen_rows machine o))) entry.reply.said after
     (ap (λ (f : Option Transaction). (step_of machine (asks session (act.Scan table)) f).0) at)
     (rows-themselves (contents_of table (seen_rows machine o))) refl h.outcome h.tells h.allows (λ t b s. refl) refl
-takes-read tables front machine entry after (Session session) asked o is at h = other-read (seen_rows machine o) asked entry.reply.said refl refl
+takes-read tables front machine entry after (Session session) (command.Range table low high) o is at h =
+    let rows = contents_between table low high (seen_rows machine o) in
+    outcome-read machine (reads_after (thread entry.reply.who front)) session (command.Range table low high) (act.Range table low high) (seen_rows machine o) (answer.Rows rows) entry.reply.said after
+    (ap (λ (f : Option Transaction). (step_of machine (asks session (act.Range table low high)) f).0) at)
+    (rows-themselves rows) refl h.outcome h.tells h.allows (λ t b s. refl) refl
+takes-read tables front machine entry after (Session session) (command.Total table column low high) o is at h =
+    let numbers = numbers_between column low high (contents_of table (seen_rows machine o)) in
+    outcome-read machine (reads_after (thread entry.reply.who front)) session (command.Total table column low high) (act.Total table column low high) (seen_rows machine o) (told_total numbers) entry.reply.said after
+    (ap (λ (f : Option Transaction). (step_of machine (asks session (act.Total table column low high)) f).0) at)
+    (told-holds (length numbers) (sum_of numbers)) refl h.outcome h.tells h.allows (λ t b s. refl) refl
+takes-read tables front machine entry after (Session session) asked o is at h = other-read (seen_rows machine o) asked entry.reply.said refl refl refl
 
 -- ---- writes by the rows
 
@@ -251,13 +272,14 @@ verdict-write machine o place acceptable told (limited clear can (inr is)) = ap 
 verdict-write machine o place acceptable told (memory is) = ap (write_holds acceptable) is
 
 -- Where the machine's answer refuses no write by the rows, no outcome does.
-outcome-unrefused : (machine : IsolationMachine) (session : ℕ) (act : Act) (own : Answer) (told : Said) (after : IsolationMachine)
-    → (step machine (asks session act)).0 ≡ own → refuses (said_of own) ≡ false → (outcome : Outcome) → Tells outcome told → Allows machine (asks session act) outcome after → refuses told ≡ false
-outcome-unrefused machine session act own told after is free (Answered a) tells allows =
+outcome-unrefused : (machine : IsolationMachine) (reads : Option ReadSet) (session : ℕ) (act : Act) (own : Answer) (told : Said) (after : IsolationMachine)
+    → (step_with machine reads (asks session act)).0 ≡ own → refuses (said_of own) ≡ false → (outcome : Outcome) → Tells outcome told → Allows machine reads (asks session act) outcome after
+    → refuses told ≡ false
+outcome-unrefused machine reads session act own told after is free (Answered a) tells allows =
     let e : a ≡ own = sym (ap (λ (p : Answer × IsolationMachine). p.0) allows) ∙ is in ap refuses (tells ∙ ap said_of e) ∙ free
-outcome-unrefused machine session act own told after is free Freezing tells allows = ap refuses tells.3
-outcome-unrefused machine session act own told after is free Full tells allows = ap refuses tells
-outcome-unrefused machine session act own told after is free Memory tells allows = ap refuses tells
+outcome-unrefused machine reads session act own told after is free Freezing tells allows = ap refuses tells.3
+outcome-unrefused machine reads session act own told after is free Full tells allows = ap refuses tells
+outcome-unrefused machine reads session act own told after is free Memory tells allows = ap refuses tells
 
 -- The answer to a get refuses no write by the rows.
 got-unrefused : (o : Option (List Cell)) → refuses (said_of (answer.Found o)) ≡ false
@@ -268,6 +290,15 @@ got-unrefused (Some row) = refl
 commit-unrefused : (machine : IsolationMachine) (o : Transaction) (own : WriteSet) → refuses (said_of (commit machine o own).0) ≡ false
 commit-unrefused machine o [] = refl
 commit-unrefused machine o (first ∷ rest) = refl
+
+-- Nor does the answer to a commit that hands in reads, stale or not.
+handed-unrefused : (machine : IsolationMachine) (reads : Option ReadSet) (session : ℕ) (o : Transaction) (stale : Option (Read × ℕ)) → transaction_of session machine ≡ Some o
+    → stale_of machine reads session act.Commit ≡ stale → refuses (said_of (step_with machine reads (asks session act.Commit)).0) ≡ false
+handed-unrefused machine reads session o None at is =
+    ap (λ (p : Answer × IsolationMachine). refuses (said_of p.0)) (commit-stands machine reads session is)
+    ∙ ap (λ (f : Option Transaction). refuses (said_of (step_of machine (asks session act.Commit) f).0)) at
+    ∙ commit-unrefused machine o o.own
+handed-unrefused machine reads session o (Some stale) at is = ap (λ (p : Answer × IsolationMachine). refuses (said_of p.0)) (commit-refused machine reads session stale is)
 
 -- What upkeep tells refuses no write by the rows.
 upkeep-unrefused : (told : Said) → is_of_upkeep told ≡ true → refuses told ≡ false
@@ -286,14 +317,20 @@ export-unrefused tables front machine (Some o) table _ h = refl
 takes-write : (tables : List TableDecl) (front : List Entry) (machine : IsolationMachine) (entry : Entry) (after : IsolationMachine) (who : Who) (asked : Command) (o : Transaction)
     → entry.command ≡ asked → open_of who machine ≡ Some o → TakesAs tables front machine entry after (request_of who asked) → write_holds (is_acceptable (seen_rows machine o) asked) entry.reply.said ≡ true
 takes-write tables front machine entry after (Worker worker) asked o is at h = absurd (let never : ⊥ = cc in never)
-takes-write tables front machine entry after (Session session) command.Begin o is at h =
-    unrefused entry.reply.said (outcome-unrefused machine session act.Begin answer.InTransaction entry.reply.said after (ap (λ (f : Option Transaction). (step_of machine (asks session act.Begin) f).0) at) refl h.outcome h.tells h.allows)
+takes-write tables front machine entry after (Session session) (command.Begin checked) o is at h =
+    unrefused entry.reply.said (outcome-unrefused machine (reads_after (thread entry.reply.who front)) session (act.Begin checked) answer.InTransaction entry.reply.said after (ap (λ (f : Option Transaction). (step_of machine (asks session (act.Begin checked)) f).0) at) refl h.outcome h.tells h.allows)
 takes-write tables front machine entry after (Session session) (command.Get table key) o is at h =
-    unrefused entry.reply.said (outcome-unrefused machine session (act.Get table key) (answer.Found (at_place (seen_rows machine o) (place_at table key))) entry.reply.said after
+    unrefused entry.reply.said (outcome-unrefused machine (reads_after (thread entry.reply.who front)) session (act.Get table key) (answer.Found (at_place (seen_rows machine o) (place_at table key))) entry.reply.said after
     (ap (λ (f : Option Transaction). (step_of machine (asks session (act.Get table key)) f).0) at) (got-unrefused (at_place (seen_rows machine o) (place_at table key))) h.outcome h.tells h.allows)
 takes-write tables front machine entry after (Session session) (command.Scan table) o is at h =
-    unrefused entry.reply.said (outcome-unrefused machine session (act.Scan table) (answer.Rows (contents_of table (seen_rows machine o))) entry.reply.said after
+    unrefused entry.reply.said (outcome-unrefused machine (reads_after (thread entry.reply.who front)) session (act.Scan table) (answer.Rows (contents_of table (seen_rows machine o))) entry.reply.said after
     (ap (λ (f : Option Transaction). (step_of machine (asks session (act.Scan table)) f).0) at) refl h.outcome h.tells h.allows)
+takes-write tables front machine entry after (Session session) (command.Range table low high) o is at h =
+    unrefused entry.reply.said (outcome-unrefused machine (reads_after (thread entry.reply.who front)) session (act.Range table low high) (answer.Rows (contents_between table low high (seen_rows machine o))) entry.reply.said after
+    (ap (λ (f : Option Transaction). (step_of machine (asks session (act.Range table low high)) f).0) at) refl h.outcome h.tells h.allows)
+takes-write tables front machine entry after (Session session) (command.Total table column low high) o is at h =
+    unrefused entry.reply.said (outcome-unrefused machine (reads_after (thread entry.reply.who front)) session (act.Total table column low high) (told_total (numbers_between column low high (contents_of table (seen_rows machine o)))) entry.reply.said after
+    (ap (λ (f : Option Transaction). (step_of machine (asks session (act.Total table column low high)) f).0) at) refl h.outcome h.tells h.allows)
 takes-write tables front machine entry after (Session session) (command.Insert table row) o is at h =
     verdict-write machine o _ (is_acceptable (seen_rows machine o) (command.Insert table row)) entry.reply.said
     (takes-verdict tables front machine session o (command.Insert table row) entry.reply.said after entry _ _ is refl at refl h)
@@ -304,10 +341,11 @@ takes-write tables front machine entry after (Session session) (command.Delete t
     verdict-write machine o _ (is_acceptable (seen_rows machine o) (command.Delete table key)) entry.reply.said
     (takes-verdict tables front machine session o (command.Delete table key) entry.reply.said after entry _ _ is refl at refl h)
 takes-write tables front machine entry after (Session session) command.Commit o is at h =
-    unrefused entry.reply.said (outcome-unrefused machine session act.Commit (commit machine o o.own).0 entry.reply.said after
-    (ap (λ (f : Option Transaction). (step_of machine (asks session act.Commit) f).0) at) (commit-unrefused machine o o.own) h.outcome h.tells h.allows)
+    unrefused entry.reply.said (outcome-unrefused machine (reads_after (thread entry.reply.who front)) session act.Commit
+    (step_with machine (reads_after (thread entry.reply.who front)) (asks session act.Commit)).0 entry.reply.said after refl
+    (handed-unrefused machine (reads_after (thread entry.reply.who front)) session o (stale_of machine (reads_after (thread entry.reply.who front)) session act.Commit) at refl) h.outcome h.tells h.allows)
 takes-write tables front machine entry after (Session session) command.Abort o is at h =
-    unrefused entry.reply.said (outcome-unrefused machine session act.Abort answer.Aborted entry.reply.said after (ap (λ (f : Option Transaction). (step_of machine (asks session act.Abort) f).0) at) refl h.outcome h.tells h.allows)
+    unrefused entry.reply.said (outcome-unrefused machine (reads_after (thread entry.reply.who front)) session act.Abort answer.Aborted entry.reply.said after (ap (λ (f : Option Transaction). (step_of machine (asks session act.Abort) f).0) at) refl h.outcome h.tells h.allows)
 takes-write tables front machine entry after (Session session) (command.Export table) o is at h =
     let aside : Aside tables front machine entry.reply.who (command.Export table) entry.reply.said = subst (λ (c : Command). Aside tables front machine entry.reply.who c entry.reply.said) is h.0 in
     unrefused entry.reply.said (export-unrefused tables front machine (open_of entry.reply.who machine) table entry.reply.said aside)
@@ -317,9 +355,7 @@ takes-write tables front machine entry after (Session session) asked o is at h =
 
 -- a reply that shows a snapshot reads nothing
 begun-read : (seen : State) (asked : Command) (number : ℕ) → read_holds seen asked (said.At number) ≡ true
-begun-read seen (command.Get table key) number = refl
-begun-read seen (command.Scan table) number = refl
-begun-read seen _ number = refl
+begun-read seen asked number = refl
 
 -- a test of the transaction that a reply belongs to, if it belongs to one
 pub at-some : (test : Span → Bool) (found : Option Span) (u : Span) → found ≡ Some u → test u ≡ true → option_map_or test found true ≡ true
@@ -344,14 +380,14 @@ module _ (tables : List TableDecl) (printed timeline : List Entry) (t : Timeline
   -- where the reply opens one.
   pub by-transaction : (test : Span → Bool)
       → ((o : Transaction) (at : open_of entry.reply.who cut.machine ≡ Some o) (within : Within entry.reply.who (thread entry.reply.who cut.front) o) → test (belongs tables printed timeline t entry only cut o within) ≡ true)
-      → ((u : Span) → entry.command ≡ command.Begin → entry.reply.said ≡ said.At (length cut.machine.history) → test u ≡ true)
+      → ((u : Span) (checked : Bool) → entry.command ≡ command.Begin checked → entry.reply.said ≡ said.At (length cut.machine.history) → test u ≡ true)
       → (found : Option Transaction) → open_of entry.reply.who cut.machine ≡ found → Change entry.reply.who entry.command entry.reply.said cut.machine cut.after
       → option_map_or test (belongs_to run_here entry) true ≡ true
   by-transaction test inside begins (Some o) at change =
       let within = within-open tables printed timeline t entry only cut o at in
       at-some test (belongs_to run_here entry) (belongs tables printed timeline t entry only cut o within) (belongs-is tables printed timeline t entry only cut o within) (inside o at within)
   by-transaction test inside begins None at (quiet q) = at-none test (belongs_to run_here entry) (belongs-none tables printed timeline t entry only cut at q.opens)
-  by-transaction test inside begins None at (opens o) = at-any test (belongs_to run_here entry) (λ u. begins u o.asked_is o.said_is)
+  by-transaction test inside begins None at (opens o) = at-any test (belongs_to run_here entry) (λ u. begins u o.checked o.asked_is o.said_is)
   by-transaction test inside begins None at (writes w) = at-none test (belongs_to run_here entry) (belongs-none tables printed timeline t entry only cut at (ap snapshot_in w.said_is))
   by-transaction test inside begins None at (ends e) = at-none test (belongs_to run_here entry) (belongs-none tables printed timeline t entry only cut at (ended-unopened entry.reply.said e.t.own e.said_is))
   by-transaction test inside begins None at (commits c) = at-none test (belongs_to run_here entry) (belongs-none tables printed timeline t entry only cut at (ap snapshot_in c.said_is))
@@ -362,7 +398,7 @@ module _ (tables : List TableDecl) (printed timeline : List Entry) (t : Timeline
       by-transaction (λ u. read_holds (seen_at run_here u entry) entry.command entry.reply.said)
       (λ o at within. ap (λ (s : State). read_holds s entry.command entry.reply.said) (seen-is tables printed timeline t entry only cut o at within)
       ∙ takes-read tables cut.front cut.machine entry cut.after entry.reply.who entry.command o refl at cut.takes)
-      (λ u is_asked is. ap (read_holds (seen_at run_here u entry) entry.command) is ∙ begun-read (seen_at run_here u entry) entry.command (length cut.machine.history))
+      (λ u checked is_asked is. ap (read_holds (seen_at run_here u entry) entry.command) is ∙ begun-read (seen_at run_here u entry) entry.command (length cut.machine.history))
       (open_of entry.reply.who cut.machine) refl cut.change
 
   -- Writes.
@@ -371,5 +407,5 @@ module _ (tables : List TableDecl) (printed timeline : List Entry) (t : Timeline
       by-transaction (λ u. write_holds (is_acceptable (seen_at run_here u entry) entry.command) entry.reply.said)
       (λ o at within. ap (λ (s : State). write_holds (is_acceptable s entry.command) entry.reply.said) (seen-is tables printed timeline t entry only cut o at within)
       ∙ takes-write tables cut.front cut.machine entry cut.after entry.reply.who entry.command o refl at cut.takes)
-      (λ u is_asked is. ap (write_holds (is_acceptable (seen_at run_here u entry) entry.command)) is)
+      (λ u checked is_asked is. ap (write_holds (is_acceptable (seen_at run_here u entry) entry.command)) is)
       (open_of entry.reply.who cut.machine) refl cut.change

@@ -22,6 +22,8 @@ use Rattle.workload_spec.specs.declared.reply.Said.TheVariants as said
 use Rattle.outcome_spec.specs.Entries.{Entry, is_same, shown_in, snapshot_in, commit_in, is_end}
 use Rattle.outcome_spec.specs.Runs.{accepted_write, writes_in}
 use Rattle.outcome_spec.specs.Numbers.{number_shown}
+use Rattle.outcome_spec.specs.Stale.{reads_after}
+use Rattle.isolation_spec.specs.Reads.{ReadSet}
 use Rattle.timeline_spec.specs.Timeline.{open_of}
 use Rattle.outcome_spec.specs.Entries.{thread}
 use Rattle.timeline_laws.proofs.Ranges.{range-push}
@@ -29,6 +31,7 @@ use Rattle.timeline_laws.proofs.Order.{same-is}
 use Rattle.timeline_laws.proofs.Spans.{Past, past-nil, past-idle, past-opens, past-goes_on, past-ends}
 use Rattle.timeline_laws.proofs.Machine.{Sane, sane-opening, sane-begin, sane-end, sane-commit, sane-write, begun, entering, at-begun, at-ended, at-written, its-session, free-none, eqb-itself, Free}
 use Rattle.timeline_laws.proofs.Agrees.{Agree, agree-by, others-open}
+use Rattle.timeline_laws.proofs.ReadSets.{ReadsAre, reads-push, reads-begin, reads-go_on}
 use Rattle.timeline_laws.proofs.Steps.{Change, quiet, opens, writes, ends, commits, Quiet, shows_at_most}
 
 -- the open transaction of a session, among its replies
@@ -39,6 +42,7 @@ pub record Within (who : Who) (past : List Entry) (t : Transaction) : Type 0 whe
   pub spanned : Past who past (Some (t.snapshot, replies))
   pub on : find (λ entry. is_end entry.reply.said) replies ≡ None
   pub writes_are : writes_in replies ≡ t.own
+  pub reads_are : ReadsAre (reads_after past) replies
 
 -- a session's replies so far have just this transaction open, or none
 abbrev pub Stands : Who → List Entry → Option Transaction → Type 0
@@ -63,6 +67,12 @@ write-more front entry place row some =
     rw (filter_map-append accepted_write front (entry ∷ []), some)
     (fold_push (λ writes (write : Place × Option (List Cell)). insert_entry place_cmp writes write.0 write.1) [] (filter_map accepted_write front) (place, row))
 
+-- One more reply that neither opens nor ends leaves the reads those that the replies tell.
+reads-more : (past replies : List Entry) (entry : Entry) → snapshot_in entry.reply.said ≡ None → is_end entry.reply.said ≡ false
+    → ReadsAre (reads_after past) replies → ReadsAre (reads_after (past ++ entry ∷ [])) (replies ++ entry ∷ [])
+reads-more past replies entry none on h =
+    subst (λ (r : Option ReadSet). ReadsAre r (replies ++ entry ∷ [])) (sym (reads-push past entry)) (reads-go_on (reads_after past) replies entry none on h)
+
 -- A reply that neither opens, ends nor writes leaves what is open.
 stands-quiet : (who : Who) (past : List Entry) (entry : Entry) (found : Option Transaction) → Stands who past found
     → snapshot_in entry.reply.said ≡ None → is_end entry.reply.said ≡ false → accepted_write entry ≡ None → Stands who (past ++ entry ∷ []) found
@@ -74,6 +84,7 @@ stands-quiet who past entry (Some t) h a b c = record {
   spanned = past-goes_on who past entry t.snapshot h.replies h.spanned a b;
   on = find-more h.replies entry h.on b;
   writes_are = writes-more h.replies entry c ∙ h.writes_are;
+  reads_are = reads-more past h.replies entry a b h.reads_are;
 }
 
 -- A begin where nothing is open opens a transaction that wrote nothing.
@@ -86,6 +97,7 @@ stands-begin who past entry session count h is = record {
   spanned = past-opens who past entry count h (ap snapshot_in is) (ap is_end is);
   on = rw is refl;
   writes_are = rw is refl;
+  reads_are = subst (λ (r : Option ReadSet). ReadsAre r (entry ∷ [])) (sym (reads-push past entry)) (reads-begin (reads_after past) entry count is);
 }
 
 -- An accepted write is entered into the transaction that is open.
@@ -98,6 +110,7 @@ stands-write who past entry t place change h is wrote = record {
   spanned = past-goes_on who past entry t.snapshot h.replies h.spanned (ap snapshot_in is) (ap is_end is);
   on = find-more h.replies entry h.on (ap is_end is);
   writes_are = write-more h.replies entry place change wrote ∙ ap (λ (own : WriteSet). insert_entry place_cmp own place change) h.writes_are;
+  reads_are = reads-more past h.replies entry (ap snapshot_in is) (ap is_end is) h.reads_are;
 }
 
 -- An end of the transaction that was open leaves none open.

@@ -12,11 +12,12 @@ use Rattle.workload_spec.specs.declared.reply.Who.TheVariants.{Session}
 use Rattle.workload_spec.specs.declared.reply.SealCause.TheVariants as cause
 use Rattle.workload_spec.specs.declared.reply.Said.{Said}
 use Rattle.workload_spec.specs.declared.reply.Said.TheVariants as said
+use Rattle.workload_spec.specs.declared.reply.StaleRead.TheVariants as stale
 use Rattle.outcome_spec.specs.Entries.{Entry}
 use Rattle.outcome_spec.specs.Forms.{dues_of}
 use Rattle.outcome_spec.specs.Samples.{texts, keys, key_row, sessions, with_worker, begin, insert}
 use Rattle.outcome_spec.specs.Samples.{put, puts, touch, delete, commit, prune, compact, seal}
-use Rattle.outcome_spec.specs.Samples.{gather, export}
+use Rattle.outcome_spec.specs.Samples.{gather, export, begin_checked, get}
 use Rattle.timeline_spec.specs.Timeline.{Timeline, InOrder, Runs, Counts, Aside}
 use Rattle.timeline_spec.specs.Printed.{printed_of, text_of}
 use Rattle.timeline_spec.specs.Forms.{AllMayStand}
@@ -79,6 +80,21 @@ block_entries = printed_of one_block block_replies
 abbrev pub BlocksComeAbout : Type 0
 BlocksComeAbout = AllMayStand (dues_of one_block) block_replies
     × Runs one_block.tables [] opening block_entries
+
+-- A checked session gets a key that has no row, and writes another; a second session commits that
+-- key, and the first one's commit is refused.
+abbrev pub stale_reader : Script
+stale_reader = sessions (texts 1)
+    ((begin_checked 1 ∷ get 1 5 ∷ insert 1 1 (codes "x") ∷ [])
+    ∷ (begin 2 ∷ insert 2 5 (codes "y") ∷ commit 2 ∷ []) ∷ (commit 1 ∷ []) ∷ [])
+
+abbrev pub stale_told : List (Option Said)
+stale_told = map Some (said.At 0 ∷ said.Absent ∷ said.Accepted ∷ said.At 0 ∷ said.Accepted
+    ∷ said.Committed (Some 1) ∷ said.Stale (stale.Key 0 (pos 5)) 1 ∷ [])
+
+abbrev pub StaleComesAbout : Type 0
+StaleComesAbout = AllMayStand (dues_of stale_reader) stale_told
+    × Runs stale_reader.tables [] opening (printed_of stale_reader stale_told)
 
 -- the reply does not come about behind the first so many of them
 abbrev pub IsUncounted : ℕ → Command → Said → Type 0

@@ -1,13 +1,15 @@
 -- What a line may say where a reply is due: the kind of reply is one of its command's, and its
 -- numbers fit their widths.
 use Rattle.std.specs.Prelude.{◌≡◌, ◌⊎◌, ℕ, ◌<◌, ◌^◌, ◌&&◌, true, false, List, [], ◌∷◌, length}
-use Rattle.std.specs.Prelude.{Option, None, Some}
+use Rattle.std.specs.Prelude.{Option, None, Some, pos, negsuc, ◌-◌}
 use Rattle.cell_model.specs.declared.kind.Kind.TheVariants as kind
-use Rattle.cell_model.specs.Values.{is_integer_of}
+use Rattle.cell_model.specs.Values.{is_between, is_integer_of}
 use Rattle.workload_spec.specs.declared.command.Command.{Command}
 use Rattle.workload_spec.specs.declared.command.Command.TheVariants as command
 use Rattle.workload_spec.specs.declared.reply.Said.{Said}
 use Rattle.workload_spec.specs.declared.reply.Said.TheVariants as said
+use Rattle.workload_spec.specs.declared.reply.StaleRead.{StaleRead}
+use Rattle.workload_spec.specs.declared.reply.StaleRead.TheVariants as stale
 use Rattle.outcome_spec.specs.Forms.{Due, is_worker, is_silent, may_be_silent}
 
 -- what an update or a delete of a row of this table may be told
@@ -41,10 +43,24 @@ IsScanReply (said.Scanned rows) = length rows < 2 ^ 64
 IsScanReply said.Memory = Unit {0}
 IsScanReply _ = ⊥
 
+-- the keys of a stale read are of 64 bits
+abbrev pub IsStaleRead : StaleRead → Type 0
+IsStaleRead (stale.Key table key) = is_integer_of kind.I64 key ≡ true
+IsStaleRead (stale.Table table) = Unit {0}
+IsStaleRead (stale.Range table low high) = (is_integer_of kind.I64 low ≡ true)
+    × (is_integer_of kind.I64 high ≡ true)
+
 abbrev pub IsCommitReply : Said → Type 0
 IsCommitReply (said.Committed None) = Unit {0}
 IsCommitReply (said.Committed (Some number)) = number < 2 ^ 64
+IsCommitReply (said.Stale what number) = IsStaleRead what × (number < 2 ^ 64)
 IsCommitReply _ = ⊥
+
+abbrev pub IsTotalReply : Said → Type 0
+IsTotalReply (said.Totalled count sum) = (count < 2 ^ 64)
+    × (is_between (negsuc (2 ^ 127 - 1)) (pos (2 ^ 127 - 1)) sum ≡ true)
+IsTotalReply said.Memory = Unit {0}
+IsTotalReply _ = ⊥
 
 abbrev pub IsExportReply : Said → Type 0
 IsExportReply (said.Exported number rows batches frozen) = (number < 2 ^ 64) × (rows < 2 ^ 64)
@@ -79,9 +95,11 @@ IsGatherReply table block _ = ⊥
 
 -- what may be told in a transaction, and to upkeep
 abbrev pub IsReplyWithin : Command → Said → Type 0
-IsReplyWithin command.Begin told = told ≡ said.InTransaction
+IsReplyWithin (command.Begin checked) told = told ≡ said.InTransaction
 IsReplyWithin (command.Get table key) told = IsGetReply told
 IsReplyWithin (command.Scan table) told = IsScanReply told
+IsReplyWithin (command.Range table low high) told = IsScanReply told
+IsReplyWithin (command.Total table column low high) told = IsTotalReply told
 IsReplyWithin (command.Insert table row) told = IsInsertReply told
 IsReplyWithin (command.Update table row) told = IsChangeReply table told
 IsReplyWithin (command.Delete table key) told = IsChangeReply table told
@@ -101,9 +119,11 @@ IsBeginReply _ = ⊥
 
 -- what may be told without one
 abbrev pub IsReplyWithout : Command → Said → Type 0
-IsReplyWithout command.Begin told = IsBeginReply told
+IsReplyWithout (command.Begin checked) told = IsBeginReply told
 IsReplyWithout (command.Get table key) told = told ≡ said.NoTransaction
 IsReplyWithout (command.Scan table) told = told ≡ said.NoTransaction
+IsReplyWithout (command.Range table low high) told = told ≡ said.NoTransaction
+IsReplyWithout (command.Total table column low high) told = told ≡ said.NoTransaction
 IsReplyWithout (command.Insert table row) told = told ≡ said.NoTransaction
 IsReplyWithout (command.Update table row) told = told ≡ said.NoTransaction
 IsReplyWithout (command.Delete table key) told = told ≡ said.NoTransaction

@@ -3,7 +3,7 @@
 
 ghost use Rattle.timeline_spec.specs.Examples.{OneWasRefused, SecondCameFirst, BlocksComeAbout};
 ghost use Rattle.timeline_spec.specs.Examples.{OthersDoNot, OthersAreNotExported};
-ghost use Rattle.timeline_spec.specs.Examples.{OthersAreNoTimeline};
+ghost use Rattle.timeline_spec.specs.Examples.{OthersAreNoTimeline, StaleComesAbout};
 
 /// Which of a worker's gatherings was refused memory is not told by its line, and not by what is
 /// read from it.
@@ -25,6 +25,11 @@ pub fn others_are_no_timeline()
 /// A table is filled, and its block sealed, gathered, exported and compacted.
 pub fn blocks_come_about()
     ensures { BlocksComeAbout }
+{}
+
+/// A commit is refused where a key that its transaction got was committed since.
+pub fn a_stale_commit_comes_about()
+    ensures { StaleComesAbout }
 {}
 
 /// What the counts of a block's replies rule out.

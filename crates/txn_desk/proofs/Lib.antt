@@ -1,1 +1,2 @@
 pub mod LeastStart
+pub mod Tables

@@ -1,11 +1,16 @@
-//! The desk of transactions: it gives out stamps, numbers the commits and knows which snapshots are
-//! open.
+//! The desk of transactions: it gives out stamps, numbers the commits, and knows which snapshots are
+//! open and which commit wrote each table last.
 #![tactic(auto)]
 
 ghost use Rattle.std.specs.Prelude.{◌≡◌, ◌+◌, ◌-◌, ◌^◌, ◌<◌, ◌≤◌, None, Some, IfOk, IsSome, length};
 ghost use Rattle.std.specs.Prelude.{replicate, slice_set};
+ghost use Rattle.txn_desk.specs.Desk.{marked, wrote_table};
+ghost use Rattle.txn_desk.specs.Marks.{is_marked};
 ghost use Rattle.txn_desk.specs.Oldest.{HasPass, snapshot_of, oldest_of};
 
+pub mod marks;
+
+pub use marks::TableMarks;
 use std::alloc::{AllocError, Global};
 use std::marker::Model;
 
@@ -17,12 +22,14 @@ pub struct Snapshot {
 }
 
 /// Gives out stamps in order, one to each commit that wrote and one to each tick, and numbers these
-/// commits from 1. It has a place for each of its passes, which count from 1.
+/// commits from 1. It has a place for each of its passes, which count from 1, and for each of 16
+/// tables, which count from 0.
 #[derive(Drop)]
 pub struct Desk {
     newest: u64,
     commits: u64,
     open_snapshots: Vec<Option<Snapshot>>,
+    wrote: [u64; 16],
 }
 
 impl Model for Desk {
@@ -34,6 +41,7 @@ impl Model for Desk {
       newest = desk.newest;
       commits = desk.commits;
       open_snapshots = desk.open_snapshots.items;
+      wrote = desk.wrote;
     } };
 
     ghost invariant = { λ desk. IsInOrder desk.newest desk.commits desk.open_snapshots.items };
@@ -47,12 +55,14 @@ impl Desk {
           newest = 0;
           commits = 0;
           open_snapshots = replicate passes None;
+          wrote = replicate 16 0;
         }) }
     {
         Ok(Desk {
             newest: 0,
             commits: 0,
             open_snapshots: vec![in alloc; None; passes as usize]?,
+            wrote: [0; 16],
         })
     }
 
@@ -89,9 +99,9 @@ impl Desk {
         snapshot
     }
 
-    /// Commits a pass's transaction: it has the next stamp and the next number, and is no longer
-    /// open.
-    pub fn commit(&mut self, pass: u32) -> Snapshot
+    /// Commits a pass's transaction, which wrote the marked tables: it has the next stamp and the
+    /// next number, and is no longer open.
+    pub fn commit(&mut self, pass: u32, tables: &TableMarks) -> Snapshot
         requires pass { HasPass self.old pass }
         requires open { IsSome (snapshot_of self.old pass) }
         requires stamps { self.old.newest + 1 < 2 ^ 63 }
@@ -103,6 +113,7 @@ impl Desk {
           newest = result.stamp;
           commits = result.number;
           open_snapshots = slice_set self.old.open_snapshots (pass - 1) None;
+          wrote = marked result.number (is_marked tables.now) self.old.wrote;
         } }
         ensures oldest { oldest_of self.old ≤ oldest_of self.new }
     {
@@ -112,8 +123,17 @@ impl Desk {
         };
         self.newest = committed.stamp;
         self.commits = committed.number;
+        mark_all(&mut self.wrote, tables, committed.number);
         self.end(pass);
         committed
+    }
+
+    /// The number of the last commit that wrote a table, 0 where none did.
+    pub fn wrote(&self, table: u32) -> u64
+        requires { table < 16 }
+        ensures { result ≡ wrote_table self.now table }
+    {
+        self.wrote[table as usize]
     }
 
     /// Takes the next stamp for a change that is no commit.
@@ -158,5 +178,16 @@ impl Desk {
             }
         }
         oldest
+    }
+}
+
+/// Enters a commit's number as the last of the marked tables.
+fn mark_all(wrote: &mut [u64; 16], tables: &TableMarks, number: u64)
+    ensures { wrote.new ≡ marked number (is_marked tables.now) wrote.old }
+{
+    for table in 0..16 {
+        if tables.has(table) {
+            wrote[table as usize] = number;
+        }
     }
 }

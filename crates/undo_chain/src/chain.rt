@@ -148,10 +148,29 @@ impl<D> Chain<D> {
         if let Some(writer) = self.other_writer(session) {
             return Newer::Session(writer);
         }
-        match self.number_above(stamp) {
+        match self.above(stamp) {
             Some(number) => Newer::Number(number),
             None => Newer::Nothing,
         }
+    }
+
+    /// The largest number of a commit with a stamp above `stamp`. A move is no commit.
+    pub fn above(&self, stamp: u64) -> Option<u64>
+        requires { IsLawful self.now.entries }
+        ensures { result ≡ largest (numbers_above self.now.entries stamp) }
+    {
+        let mut number = None;
+        let mut older = self.stamped();
+        // No entry below one that was stamped by then is above the stamp.
+        while let Some((newest, rest)) = older.split_last()
+            && !newest.is_stamped_by(stamp)
+        {
+            if newest.is_commit_above(stamp) {
+                number = Some(number.unwrap_or(0).max(newest.number));
+            }
+            older = rest;
+        }
+        number
     }
 
     /// Another session that has an uncommitted write here, which then is the newest entry.
@@ -179,25 +198,6 @@ impl<D> Chain<D> {
         let count = entries.partition_point(|undo| undo.stamp.is_some());
         let (stamped, _) = entries.split_at(count);
         stamped
-    }
-
-    /// The largest number of a commit above the stamp.
-    fn number_above(&self, stamp: u64) -> Option<u64>
-        requires { IsLawful self.now.entries }
-        ensures { result ≡ largest (numbers_above self.now.entries stamp) }
-    {
-        let mut number = None;
-        let mut older = self.stamped();
-        // No entry below one that was stamped by then is above the stamp.
-        while let Some((newest, rest)) = older.split_last()
-            && !newest.is_stamped_by(stamp)
-        {
-            if newest.is_commit_above(stamp) {
-                number = Some(number.unwrap_or(0).max(newest.number));
-            }
-            older = rest;
-        }
-        number
     }
 
     /// Commits the session's entries: each gets the stamp and the commit's number. Another session

@@ -4,5 +4,6 @@
 mod words;
 
 pub use words::{
-    put_cells, put_key, put_kind, put_natural, put_number, put_quoted, put_table_name, put_word,
+    is_spelling, put_cells, put_column_name, put_key, put_kind, put_natural, put_number,
+    put_quoted, put_signed, put_table_name, put_word,
 };

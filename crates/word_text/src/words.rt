@@ -1,9 +1,9 @@
 //! Numbers, cells and names as words.
-ghost use Rattle.std.specs.Prelude.{◌≡◌, ◌++◌, ◌∷◌, decimal, flat_map, OnOk, ◌<◌};
+ghost use Rattle.std.specs.Prelude.{◌≡◌, ◌++◌, ◌∷◌, bytes_eq, decimal, flat_map, OnOk, ◌<◌};
 ghost use Rattle.std.specs.Fmt.{signed_decimal};
 ghost use Rattle.std.specs.Char.{digit_char};
 ghost use Rattle.workload_spec.specs.Words.{escaped, quoted, hex_digits, cell_text, cell_words};
-ghost use Rattle.workload_spec.specs.ScriptText.{kind_text, name_of_table};
+ghost use Rattle.workload_spec.specs.ScriptText.{kind_text, name_of_table, name_of_column};
 ghost use Rattle.word_text.specs.Words.{behind_spaces};
 
 use cell_model::{Cell, Kind, TableDecl};
@@ -24,6 +24,14 @@ fn put_integer(out: &mut Vec<u8>, number: i128) -> Result<(), AllocError>
 {
     let mut buffer = Buffer::new();
     out.extend_from_slice(buffer.format(number).as_bytes())
+}
+
+/// Whether the word is the spelling of the number.
+pub fn is_spelling(number: i128, word: &[u8]) -> bool
+    ensures { result ≡ bytes_eq (signed_decimal number) word.now }
+{
+    let mut buffer = Buffer::new();
+    buffer.format(number).as_bytes() == word
 }
 
 /// Two lower-case hexadecimal digits.
@@ -127,12 +135,19 @@ pub fn put_number(out: &mut Vec<u8>, number: u64) -> Result<(), AllocError>
     put_natural(out, number)
 }
 
+/// An integer behind a space.
+pub fn put_signed(out: &mut Vec<u8>, number: i128) -> Result<(), AllocError>
+    ensures { OnOk result (out.new.items ≡ out.old.items ++ 32 ∷ signed_decimal number) }
+{
+    out.push(b' ')?;
+    put_integer(out, number)
+}
+
 /// A key behind a space.
 pub fn put_key(out: &mut Vec<u8>, key: i64) -> Result<(), AllocError>
     ensures { OnOk result (out.new.items ≡ out.old.items ++ 32 ∷ signed_decimal key) }
 {
-    out.push(b' ')?;
-    put_integer(out, key as i128)
+    put_signed(out, key as i128)
 }
 
 /// The name of a table by its place, behind a space; nothing more than the space where no table has
@@ -143,6 +158,27 @@ pub fn put_table_name(out: &mut Vec<u8>, tables: &[TableDecl], place: u32) -> Re
     out.push(b' ')?;
     match tables.get(place as usize) {
         Some(table) => out.extend_from_slice(table.name.as_slice()),
+        None => Ok(()),
+    }
+}
+
+/// The name of a table's column by the places of both, behind a space; nothing more than the space
+/// where there is no such column.
+pub fn put_column_name(
+    out: &mut Vec<u8>,
+    tables: &[TableDecl],
+    table: u32,
+    column: u32,
+) -> Result<(), AllocError>
+    ensures { OnOk result (out.new.items ≡ out.old.items
+        ++ 32 ∷ name_of_column tables.now table column) }
+{
+    out.push(b' ')?;
+    match tables.get(table as usize) {
+        Some(declared) => match declared.schema.columns().get(column as usize) {
+            Some(its) => out.extend_from_slice(its.name.as_slice()),
+            None => Ok(()),
+        },
         None => Ok(()),
     }
 }

@@ -8,19 +8,22 @@ use Rattle.std.proofs.lemmas.Bool.{eqb-true, and_parts, not-true}
 use Rattle.cell_model.specs.declared.cell.Cell.{Cell}
 use Rattle.cell_model.specs.declared.cell.Cell.TheVariants.{Num}
 use Rattle.cell_model.specs.declared.column.Column.{Column}
+use Rattle.cell_model.specs.declared.kind.Kind.{Kind}
 use Rattle.cell_model.specs.declared.table.TableDecl.{TableDecl}
+use Rattle.cell_model.specs.Kinds.{values_of}
 use Rattle.cell_model.specs.Rows.{fits}
-use Rattle.cell_model.specs.Schemas.{begins_with_key}
+use Rattle.cell_model.specs.Schemas.{begins_with_key, place_of_name}
+use Rattle.cell_model.specs.Values.{is_integer_of}
 use Rattle.workload_spec.specs.declared.command.Command.{Command}
 use Rattle.workload_spec.specs.declared.command.Command.TheVariants as command
 use Rattle.workload_spec.specs.declared.script.Cause.TheVariants as cause
 use Rattle.workload_spec.specs.declared.script.Line.{Line}
 use Rattle.workload_spec.specs.Words.{cell_words}
-use Rattle.workload_spec.specs.ScriptText.{name_of_table, command_words}
+use Rattle.workload_spec.specs.ScriptText.{name_of_table, name_of_column, command_words}
 use Rattle.workload_spec.specs.Reading.{integer_of, integer_in, natural_of, value_of_digits}
-use Rattle.workload_spec.specs.Valid.{is_within, is_name, are_columns, are_slots, are_blocks, is_table, is_table_place, is_block_of, is_key_number, fits_table, is_command, is_export}
+use Rattle.workload_spec.specs.Valid.{is_within, is_name, are_columns, are_slots, are_blocks, is_table, is_table_place, is_block_of, is_key_number, fits_table, are_numbers, are_bounds_in, is_command, is_export}
 use Rattle.workload_spec.specs.Extents.{whole}
-use Rattle.workload_spec.specs.Grammar.{or_cause, rule, word, no_word, number, Form, Alone, OfTable, OfKey, OfRow, OfBlock, forms, form_of, table_named, key_in, schema_at, cells_of, formed, line_of}
+use Rattle.workload_spec.specs.Grammar.{or_cause, rule, word, no_word, number, Form, Alone, OfTable, OfKey, OfRow, OfBlock, OfBegin, OfRange, OfTotal, forms, form_of, table_named, key_in, schema_at, cells_of, numbers_named, number_in, formed, line_of}
 use Rattle.workload_laws.specs.Bytes.{has_only_bytes, written_row}
 use Rattle.workload_laws.proofs.Results.{step, some_of, rule_of, word_is, no_word_is, number_is, eq_of, spelled_as}
 use Rattle.workload_laws.proofs.Lists.{joined, find_is, position_is}
@@ -55,6 +58,52 @@ key_is word key e =
       ap signed_decimal (sym same) ∙ spelled_as signed_decimal word (integer_in word) read (some_of cause.Number (integer_of word) read is),
       ap is_key_number (sym same) ∙ rule_of cause.Number (is_key_number read) u fits,
     )))
+
+-- a number of a kind that is read is its word, and one of the kind
+pub number_in_is : (its : Kind) (word : List ℕ) (value : ℤ) → number_in its word ≡ Ok value → (signed_decimal value ≡ word) × (is_integer_of its value ≡ true)
+number_in_is its word value e =
+    step (or_cause cause.Number (integer_of word)) _ value e (λ read is e1.
+    step (rule cause.Number (is_integer_of its read)) _ value e1 (λ u fits e2.
+    let same : read ≡ value = cc in (
+      ap signed_decimal (sym same) ∙ spelled_as signed_decimal word (integer_in word) read (some_of cause.Number (integer_of word) read is),
+      ap (is_integer_of its) (sym same) ∙ rule_of cause.Number (is_integer_of its read) u fits,
+    )))
+
+-- the column of numbers that a name names, with its kind
+pub record NamesColumn (columns : List Column) (name : List ℕ) (read : ℕ × Kind) : Type 0 where
+  pub column : Column
+  pub at : slice_get columns read.0 ≡ Some column
+  pub named : column.name ≡ name
+  pub kind : column.kind ≡ read.1
+  pub numbers : are_numbers (values_of column.kind) ≡ true
+
+-- the place that is read for a column's name has a column of the name, which has numbers
+pub column_is : (columns : List Column) (name : List ℕ) (read : ℕ × Kind) → numbers_named columns name ≡ Ok read → NamesColumn columns name read
+column_is columns name read e =
+    step (or_cause cause.Column (place_of_name name columns)) _ read e (λ place is1 e1.
+    step (or_cause cause.Column (slice_get columns place)) _ read e1 (λ column is2 e2.
+    step (rule cause.Column (are_numbers (values_of column.kind))) _ read e2 (λ u is3 e3.
+    let same : (place, column.kind) ≡ read = cc in
+    let p = position_is (λ (c : Column). bytes_eq c.name name) columns place (some_of cause.Column (place_of_name name columns) place is1) in
+    let at = some_of cause.Column (slice_get columns place) column is2 in
+    let here = p.1 in
+    let one : p.0 ≡ column = cc in
+    subst (NamesColumn columns name) same (record {
+      column = column;
+      at = at;
+      named = ap (λ (c : Column). c.name) (sym one) ∙ eq_of p.0.name name p.2;
+      kind = refl;
+      numbers = rule_of cause.Column (are_numbers (values_of column.kind)) u is3;
+    }))))
+
+-- what is told of a table's column by the places of both is told of that column
+pub column_at : {X : Type 0} (tables : List TableDecl) (table : TableDecl) (its : Column) (place column : ℕ) (tell : Column → X) (none : X) → slice_get tables place ≡ Some table → slice_get (schema_at tables place) column ≡ Some its
+    → option_map_or (λ table. option_map_or tell (slice_get table.schema column) none) (slice_get tables place) none ≡ tell its
+column_at tables table its place column tell none here there =
+    let schema : schema_at tables place ≡ table.schema = ap (λ (o : Option TableDecl). option_map_or (λ t. t.schema) o []) here in
+    ap (λ (o : Option TableDecl). option_map_or (λ t. option_map_or tell (slice_get t.schema column) none) o none) here
+    ∙ ap (λ (columns : List Column). option_map_or tell (slice_get columns column) none) (sym schema)
+    ∙ ap (λ (o : Option Column). option_map_or tell o none) there
 
 -- a command that is read from the words after a first
 pub record ReadsCommand (tables : List TableDecl) (name : List ℕ) (words : List (List ℕ)) (command : Command) : Type 0 where
@@ -184,6 +233,61 @@ of_row tables all name make text is written words command e =
       bytes = ap (list_all has_only_bytes) (written place (Num key ∷ cells)) ∙ row.2;
     })))))))
 
+-- What is read by the form of a begin is one, checked where its word stands there.
+of_begin : (tables : List TableDecl) (takes_checked : Bool) → FormReads tables (codes "begin", OfBegin takes_checked, true)
+of_begin tables takes_checked [] read e = let same : command.Begin false ≡ read = cc in subst (ReadsCommand tables (codes "begin") []) same (record { text = refl; is = refl; bytes = refl })
+of_begin tables takes_checked (how ∷ words) read e =
+    step (rule cause.Command (takes_checked && bytes_eq how (codes "checked"))) _ read e (λ u is1 e1.
+    step (no_word cause.Command words) _ read e1 (λ v is2 e2.
+    let same : command.Begin true ≡ read = cc in
+    let word_is = eq_of how (codes "checked") (and_parts takes_checked (bytes_eq how (codes "checked")) (rule_of cause.Command (takes_checked && bytes_eq how (codes "checked")) u is1)).1 in
+    subst (ReadsCommand tables (codes "begin") (how ∷ words)) same (record { text = rw (word_is, no_word_is cause.Command words v is2) refl; is = refl; bytes = refl })))
+
+-- What is read by the form of a range is one.
+of_range : (tables : List TableDecl) → FormReads tables (codes "range", OfRange, true)
+of_range tables words read e =
+    step (word cause.Command words) _ read e (λ first is1 e1.
+    step (word cause.Command first.1) _ read e1 (λ low_word is2 e2.
+    step (word cause.Command low_word.1) _ read e2 (λ high_word is3 e3.
+    step (no_word cause.Command high_word.1) _ read e3 (λ u is4 e4.
+    step (table_named tables first.0) _ read e4 (λ place is5 e5.
+    step (key_in low_word.0) _ read e5 (λ low is6 e6.
+    step (key_in high_word.0) _ read e6 (λ high is7 e7.
+    let same : command.Range place low high ≡ read = cc in
+    let names = table_is tables first.0 place is5 in
+    let l = key_is low_word.0 low is6 in
+    let h = key_is high_word.0 high is7 in
+    subst (ReadsCommand tables (codes "range") words) same (record {
+      text = rw (word_is cause.Command words first is1, word_is cause.Command first.1 low_word is2, word_is cause.Command low_word.1 high_word is3, no_word_is cause.Command high_word.1 u is4, name_is tables first.0 place names, l.0, h.0) refl;
+      is = joined (joined (place_is tables first.0 place names) l.1) h.1;
+      bytes = refl;
+    }))))))))
+
+-- What is read by the form of a total is one.
+of_total : (tables : List TableDecl) → FormReads tables (codes "total", OfTotal, true)
+of_total tables words read e =
+    step (word cause.Command words) _ read e (λ first is1 e1.
+    step (word cause.Command first.1) _ read e1 (λ column_word is2 e2.
+    step (word cause.Command column_word.1) _ read e2 (λ low_word is3 e3.
+    step (word cause.Command low_word.1) _ read e3 (λ high_word is4 e4.
+    step (no_word cause.Command high_word.1) _ read e4 (λ u is5 e5.
+    step (table_named tables first.0) _ read e5 (λ place is6 e6.
+    step (numbers_named (schema_at tables place) column_word.0) _ read e6 (λ column is7 e7.
+    step (number_in column.1 low_word.0) _ read e7 (λ low is8 e8.
+    step (number_in column.1 high_word.0) _ read e8 (λ high is9 e9.
+    let same : command.Total place column.0 low high ≡ read = cc in
+    let names = table_is tables first.0 place is6 in
+    let its = column_is (schema_at tables place) column_word.0 column is7 in
+    let l = number_in_is column.1 low_word.0 low is8 in
+    let h = number_in_is column.1 high_word.0 high is9 in
+    let name : name_of_column tables place column.0 ≡ column_word.0 = column_at tables names.table its.column place column.0 (λ c. c.name) [] names.at its.at ∙ its.named in
+    subst (ReadsCommand tables (codes "total") words) same (record {
+      text = rw (word_is cause.Command words first is1, word_is cause.Command first.1 column_word is2, word_is cause.Command column_word.1 low_word is3, word_is cause.Command low_word.1 high_word is4, no_word_is cause.Command high_word.1 u is5, name_is tables first.0 place names, name, l.0, h.0) refl;
+      is = column_at tables names.table its.column place column.0 (λ c. are_bounds_in c low high) false names.at its.at
+          ∙ joined (joined its.numbers (ap (λ k. is_integer_of k low) its.kind ∙ l.1)) (ap (λ k. is_integer_of k high) its.kind ∙ h.1);
+      bytes = refl;
+    }))))))))))
+
 -- what holds of each entry holds of the one that is found
 abbrev pub Each : {X : Type 0} → (X → Type 0) → List X → Type 0
 Each P [] = Unit {0}
@@ -202,7 +306,7 @@ each_found P p (y ∷ ys) x each e = each_by P y x (find p ys) (p y) each.0 (eac
 -- What is read by each form of the whole format is its command.
 each_form : (tables : List TableDecl) → list_all is_table tables ≡ true → Each (FormReads tables) (forms whole.commands)
 each_form tables all = (
-  alone tables (codes "begin") command.Begin refl refl refl,
+  of_begin tables true,
   (
     of_key tables (codes "get") command.Get (λ t k. refl) (λ t k. refl) (λ t k. refl),
     (
@@ -229,7 +333,7 @@ each_form tables all = (
                           of_block tables (codes "gather") command.Gather (λ t b. refl) (λ t b. refl) (λ t b. refl),
                           (
                             of_table tables (codes "export") command.Export (λ t. refl) (λ t. refl) (λ t. refl),
-                            tt,
+                            (of_range tables, (of_total tables, tt)),
                           ),
                         ),
                       ),

@@ -1,6 +1,6 @@
 -- Commands are read back from their words.
 use Rattle.std.proofs.Common.{◌≡◌, ℕ, ◌+◌, ◌^◌, ◌<◌, ◌≤◌, Bool, true, false, List, [], ◌∷◌, length, drop, refl, sym, ap, ◌∙◌, subst, arith, suc, zero}
-use Rattle.std.specs.Prelude.{◌&&◌, ◌==◌, not, nat_lt, Option, None, Some, is_some, is_none, slice_get, bytes_eq, codes, decimal, ℤ, Result, Ok, if◌then◌else◌}
+use Rattle.std.specs.Prelude.{◌&&◌, ◌==◌, not, nat_le, nat_lt, Option, None, Some, is_some, is_none, slice_get, bytes_eq, codes, decimal, ℤ, Result, Ok, if◌then◌else◌}
 use Rattle.std.specs.Fmt.{signed_decimal}
 use Rattle.std.specs.Option.{option_map_or}
 use Rattle.std.specs.List.{list_all, list_any, position_from}
@@ -9,34 +9,37 @@ use Rattle.std.proofs.lemmas.Bool.{eqb-true, eq-eqb, ltb-true, and_parts, or_par
 use Rattle.std.proofs.lemmas.Iterator.Adapters.{position_from-zero}
 use Rattle.cell_model.specs.declared.cell.Cell.{Cell}
 use Rattle.cell_model.specs.declared.cell.Cell.TheVariants.{Null, Num, Truth, Text, Blob}
+use Rattle.cell_model.specs.declared.kind.Kind.{Kind}
 use Rattle.cell_model.specs.declared.kind.Kind.TheVariants as kind
 use Rattle.cell_model.specs.declared.column.Column.{Column}
 use Rattle.cell_model.specs.declared.table.TableDecl.{TableDecl}
 use Rattle.cell_model.specs.declared.row.RowFault.{RowFault}
 use Rattle.cell_model.specs.declared.row.RowFault.TheVariants.{Arity, NullAt}
+use Rattle.cell_model.specs.Kinds.{has_width, values_of}
 use Rattle.cell_model.specs.Rows.{cell_fault, first_fault, fits}
-use Rattle.cell_model.specs.Values.{is_value_of}
-use Rattle.cell_model.specs.Schemas.{is_i64, is_key, begins_with_key}
+use Rattle.cell_model.specs.Values.{is_integer_of, is_value_of}
+use Rattle.cell_model.specs.Schemas.{is_i64, is_key, begins_with_key, place_of_name, first_twins, most_columns}
 use Rattle.workload_spec.specs.declared.command.Command.{Command}
 use Rattle.workload_spec.specs.declared.command.Command.TheVariants as command
 use Rattle.workload_spec.specs.declared.script.Cause.{Cause}
 use Rattle.workload_spec.specs.declared.script.Cause.TheVariants as cause
 use Rattle.workload_spec.specs.declared.script.Line.{Line}
 use Rattle.workload_spec.specs.Words.{cell_text, cell_words, spaced}
-use Rattle.workload_spec.specs.ScriptText.{name_of_table, command_words, line_text}
+use Rattle.workload_spec.specs.ScriptText.{name_of_table, name_of_column, command_words, line_text}
 use Rattle.workload_spec.specs.Reading.{words_of, integer_of, natural_of}
-use Rattle.workload_spec.specs.Valid.{is_within, is_table, is_table_place, is_block_of, is_key_number, fits_table, have_own_names, is_command, is_export, most_blocks}
+use Rattle.workload_spec.specs.Valid.{is_within, is_name, is_column, are_columns, is_table, is_table_place, is_block_of, is_key_number, fits_table, have_own_names, are_numbers, are_bounds_in, is_command, is_export, most_blocks}
 use Rattle.workload_spec.specs.Extents.{whole}
-use Rattle.workload_spec.specs.Grammar.{or_cause, rule, word, no_word, number, Form, Alone, OfTable, OfKey, OfRow, OfBlock, form_of, table_named, key_in, schema_at, cells_of, formed, line_of}
+use Rattle.workload_spec.specs.Grammar.{or_cause, rule, word, no_word, number, Form, Alone, OfTable, OfKey, OfRow, OfBlock, OfBegin, OfRange, OfTotal, form_of, table_named, key_in, schema_at, cells_of, numbers_named, number_in, formed, line_of}
 use Rattle.workload_laws.specs.Bytes.{has_only_bytes, written_row}
 use Rattle.workload_laws.proofs.Results.{gives, rule_back}
 use Rattle.workload_laws.proofs.Lists.{own_names}
 use Rattle.workload_laws.proofs.Cells.{i64_is}
-use Rattle.workload_laws.proofs.Commands.{table_at, begins}
+use Rattle.workload_laws.proofs.Columns.{own_from}
+use Rattle.workload_laws.proofs.Commands.{table_at, begins, column_at}
 use Rattle.workload_laws.proofs.Heads.{own_tables}
 use Rattle.workload_laws.proofs.Apart.{IsWord, AreWords, plain_word, words_apart, words_whole, is_whole}
 use Rattle.workload_laws.proofs.Numbers.{same_bytes, other_bytes, natural_back, number_back, integer_of_back, key_small, signed_plain, Begins, decimal_begins}
-use Rattle.workload_laws.proofs.CellsBack.{CellsBack, cells_back, value_of_fit, first_fits}
+use Rattle.workload_laws.proofs.CellsBack.{CellsBack, cells_back, value_of_fit, first_fits, small_of}
 use Rattle.workload_laws.proofs.TablesBack.{table_parts, within_high, name_word, number_word}
 
 -- Where none of a list passes, the one at a place fails.
@@ -104,6 +107,38 @@ key_back key is =
     gives (or_cause cause.Number (integer_of (signed_decimal key))) _ (Ok key) key (ap (or_cause cause.Number) (integer_of_back key (key_small key is)))
     (gives (rule cause.Number (is_key_number key)) _ (Ok key) tt (rule_back cause.Number (is_key_number key) is) refl)
 
+-- a number of a kind is read back from its spelling
+pub number_in_back : (its : Kind) (value : ℤ) → is_integer_of its value ≡ true → number_in its (signed_decimal value) ≡ Ok value
+number_in_back its value is =
+    gives (or_cause cause.Number (integer_of (signed_decimal value))) _ (Ok value) value (ap (or_cause cause.Number) (integer_of_back value (small_of (values_of its) value is)))
+    (gives (rule cause.Number (is_integer_of its value)) _ (Ok value) tt (rule_back cause.Number (is_integer_of its value) is) refl)
+
+-- Where all of a list pass, the one at a place does.
+passes_at : {X : Type 0} (p : X → Bool) (xs : List X) (k : ℕ) (x : X) → slice_get xs k ≡ Some x → list_all p xs ≡ true → p x ≡ true
+passes_at p [] k x e all = absurd cc
+passes_at p (y ∷ ys) zero x e all = let same : y ≡ x = cc in ap p (sym same) ∙ (and_parts (p y) (list_all p ys) all).0
+passes_at p (y ∷ ys) (suc k) x e all = passes_at p ys k x e (and_parts (p y) (list_all p ys) all).1
+
+-- a table's column at a place: its name is read as the place, where it has numbers
+record ColumnStands (columns : List Column) (its : Column) (place : ℕ) : Type 0 where
+  pub named : numbers_named columns its.name ≡ Ok (place, its.kind)
+  pub word : IsWord its.name
+
+-- A column of numbers stands at its place.
+column_stands : (columns : List Column) (its : Column) (place : ℕ) → are_columns columns ≡ true → slice_get columns place ≡ Some its → are_numbers (values_of its.kind) ≡ true → ColumnStands columns its place
+column_stands columns its place are at numbers =
+    let a = and_parts (begins_with_key columns && nat_le (length columns) most_columns && is_none (first_twins 0 columns)) (list_all is_column columns) are in
+    let b = and_parts (begins_with_key columns && nat_le (length columns) most_columns) (is_none (first_twins 0 columns)) a.0 in
+    let zero_on : 0 + place ≡ place = omega arith in
+    let found : place_of_name its.name columns ≡ Some place = position_from-zero (λ (c : Column). bytes_eq c.name its.name) columns ∙ first_from (λ (c : Column). c.name) columns place 0 its (own_from columns 0 b.1) at ∙ ap Some zero_on in
+    let made : Result (ℕ × Kind) Cause = Ok (place, its.kind) in
+    record {
+      named = gives (or_cause cause.Column (place_of_name its.name columns)) _ made place (ap (or_cause cause.Column) found)
+          (gives (or_cause cause.Column (slice_get columns place)) _ made its (ap (or_cause cause.Column) at)
+          (gives (rule cause.Column (are_numbers (values_of its.kind))) _ made tt (rule_back cause.Column (are_numbers (values_of its.kind)) numbers) refl));
+      word = name_word its.name (and_parts (is_name its.name) (has_width (values_of its.kind)) (passes_at is_column columns place its at a.1)).0;
+    }
+
 -- the forms, from what is read of their words
 formed_table : (tables : List TableDecl) (make : ℕ → Command) (words : List (List ℕ)) (name : List ℕ × List (List ℕ)) (place : ℕ) → word cause.Command words ≡ Ok name → no_word cause.Command name.1 ≡ Ok tt → table_named tables name.0 ≡ Ok place
     → formed tables (OfTable make) words ≡ Ok (make place)
@@ -134,6 +169,24 @@ formed_row tables make words name key_word place key cells e1 e2 e3 e4 e5 e6 =
     gives (word cause.Command words) _ made name e1 (gives (word cause.Command name.1) _ made key_word e2 (gives (table_named tables name.0) _ made place e3
     (gives (rule cause.Command (length (schema_at tables place) == length key_word.1 + 1)) _ made tt (rule_back cause.Command (length (schema_at tables place) == length key_word.1 + 1) e4)
     (gives (key_in key_word.0) _ made key e5 (gives (cells_of (drop 1 (schema_at tables place)) key_word.1) _ made cells e6 refl)))))
+
+-- A table and two keys that are read make a range.
+formed_range : (tables : List TableDecl) (words : List (List ℕ)) (name low_word high_word : List ℕ × List (List ℕ)) (place : ℕ) (low high : ℤ) → word cause.Command words ≡ Ok name → word cause.Command name.1 ≡ Ok low_word
+    → word cause.Command low_word.1 ≡ Ok high_word → no_word cause.Command high_word.1 ≡ Ok tt → table_named tables name.0 ≡ Ok place → key_in low_word.0 ≡ Ok low → key_in high_word.0 ≡ Ok high → formed tables OfRange words ≡ Ok (command.Range place low high)
+formed_range tables words name low_word high_word place low high e1 e2 e3 e4 e5 e6 e7 =
+    let made : Result Command Cause = Ok (command.Range place low high) in
+    gives (word cause.Command words) _ made name e1 (gives (word cause.Command name.1) _ made low_word e2 (gives (word cause.Command low_word.1) _ made high_word e3 (gives (no_word cause.Command high_word.1) _ made tt e4
+    (gives (table_named tables name.0) _ made place e5 (gives (key_in low_word.0) _ made low e6 (gives (key_in high_word.0) _ made high e7 refl))))))
+
+-- A table, a column of numbers and two numbers of its kind that are read make a total.
+formed_total : (tables : List TableDecl) (words : List (List ℕ)) (name column_word low_word high_word : List ℕ × List (List ℕ)) (place : ℕ) (column : ℕ × Kind) (low high : ℤ) → word cause.Command words ≡ Ok name → word cause.Command name.1 ≡ Ok column_word
+    → word cause.Command column_word.1 ≡ Ok low_word → word cause.Command low_word.1 ≡ Ok high_word → no_word cause.Command high_word.1 ≡ Ok tt → table_named tables name.0 ≡ Ok place
+    → numbers_named (schema_at tables place) column_word.0 ≡ Ok column → number_in column.1 low_word.0 ≡ Ok low → number_in column.1 high_word.0 ≡ Ok high → formed tables OfTotal words ≡ Ok (command.Total place column.0 low high)
+formed_total tables words name column_word low_word high_word place column low high e1 e2 e3 e4 e5 e6 e7 e8 e9 =
+    let made : Result Command Cause = Ok (command.Total place column.0 low high) in
+    gives (word cause.Command words) _ made name e1 (gives (word cause.Command name.1) _ made column_word e2 (gives (word cause.Command column_word.1) _ made low_word e3 (gives (word cause.Command low_word.1) _ made high_word e4
+    (gives (no_word cause.Command high_word.1) _ made tt e5 (gives (table_named tables name.0) _ made place e6 (gives (numbers_named (schema_at tables place) column_word.0) _ made column e7
+    (gives (number_in column.1 low_word.0) _ made low e8 (gives (number_in column.1 high_word.0) _ made high e9 refl))))))))
 
 -- a row that fits a table's columns is a key and cells that are read back
 pub record RowBack (schema : List Column) (row : List Cell) : Type 0 where
@@ -286,11 +339,89 @@ key_at tables name make place key all own text known is fits =
     let f = and_parts (is_table_place tables place) (is_key_number key) fits in
     key_command tables name make place key text known is (place_stands tables place all own f.0) f.1
 
+-- A begin is read back from its words.
+begin_back : (tables : List TableDecl) (checked : Bool) → CommandBack tables (command.Begin checked)
+begin_back tables false = record { name = codes "begin"; words = []; form = OfBegin true; text = refl; known = refl; back = refl; are = (plain_word (codes "begin") refl, tt) }
+begin_back tables true = record {
+  name = codes "begin";
+  words = codes "checked" ∷ [];
+  form = OfBegin true;
+  text = refl;
+  known = refl;
+  back = refl;
+  are = (plain_word (codes "begin") refl, (plain_word (codes "checked") refl, tt));
+}
+
+-- A range is read back from its words.
+range_back : (tables : List TableDecl) (place : ℕ) (low high : ℤ) → Stands tables place → is_key_number low ≡ true → is_key_number high ≡ true → CommandBack tables (command.Range place low high)
+range_back tables place low high at low_is high_is =
+    let name = name_of_table tables place in record {
+      name = codes "range";
+      words = name ∷ signed_decimal low ∷ signed_decimal high ∷ [];
+      form = OfRange;
+      text = refl;
+      known = refl;
+      back = formed_range tables (name ∷ signed_decimal low ∷ signed_decimal high ∷ []) (name, signed_decimal low ∷ signed_decimal high ∷ []) (signed_decimal low, signed_decimal high ∷ []) (signed_decimal high, []) place low high
+          refl refl refl refl at.named (key_back low low_is) (key_back high high_is);
+      are = (plain_word (codes "range") refl, (at.word, (plain_word (signed_decimal low) (signed_plain low (key_small low low_is)), (plain_word (signed_decimal high) (signed_plain high (key_small high high_is)), tt))));
+    }
+
+-- A range of one of the tables with two keys is read back.
+range_at : (tables : List TableDecl) (place : ℕ) (low high : ℤ) → list_all is_table tables ≡ true → have_own_names tables ≡ true → (is_table_place tables place && is_key_number low && is_key_number high) ≡ true → CommandBack tables (command.Range place low high)
+range_at tables place low high all own fits =
+    let f = and_parts (is_table_place tables place && is_key_number low) (is_key_number high) fits in
+    let g = and_parts (is_table_place tables place) (is_key_number low) f.0 in
+    range_back tables place low high (place_stands tables place all own g.0) g.1 f.1
+
+-- A total is read back from its words.
+total_back : (tables : List TableDecl) (place column : ℕ) (low high : ℤ) (its : Column) → Stands tables place → slice_get (schema_at tables place) column ≡ Some its → ColumnStands (schema_at tables place) its column
+    → is_integer_of its.kind low ≡ true → is_integer_of its.kind high ≡ true → CommandBack tables (command.Total place column low high)
+total_back tables place column low high its at there stands low_is high_is =
+    let name = name_of_table tables place in
+    let behind : List (List ℕ) = signed_decimal low ∷ signed_decimal high ∷ [] in
+    let column_name : name_of_column tables place column ≡ its.name = column_at tables at.table its place column (λ c. c.name) [] at.at there in
+    let values = values_of its.kind in record {
+      name = codes "total";
+      words = name ∷ its.name ∷ behind;
+      form = OfTotal;
+      text = ap (λ (text : List ℕ). codes "total" ∷ name ∷ text ∷ behind) column_name;
+      known = refl;
+      back = formed_total tables (name ∷ its.name ∷ behind) (name, its.name ∷ behind) (its.name, behind) (signed_decimal low, signed_decimal high ∷ []) (signed_decimal high, []) place (column, its.kind) low high
+          refl refl refl refl refl at.named stands.named (number_in_back its.kind low low_is) (number_in_back its.kind high high_is);
+      are = (
+        plain_word (codes "total") refl,
+        (
+          at.word,
+          (
+            stands.word,
+            (
+              plain_word (signed_decimal low) (signed_plain low (small_of values low low_is)),
+              (plain_word (signed_decimal high) (signed_plain high (small_of values high high_is)), tt),
+            ),
+          ),
+        ),
+      );
+    }
+
+-- A total of a column of numbers of one of the tables is read back.
+total_at : (tables : List TableDecl) (place column : ℕ) (low high : ℤ) → list_all is_table tables ≡ true → have_own_names tables ≡ true → is_command tables (command.Total place column low high) ≡ true → CommandBack tables (command.Total place column low high)
+total_at tables place column low high all own is =
+    let s = holds_some (λ (table : TableDecl). option_map_or (λ its. are_bounds_in its low high) (slice_get table.schema column) false) (slice_get tables place) is in
+    let c = holds_some (λ (its : Column). are_bounds_in its low high) (slice_get s.0.schema column) s.2 in
+    let f = and_parts (are_numbers (values_of c.0.kind) && is_integer_of c.0.kind low) (is_integer_of c.0.kind high) c.2 in
+    let g = and_parts (are_numbers (values_of c.0.kind)) (is_integer_of c.0.kind low) f.0 in
+    let schema : schema_at tables place ≡ s.0.schema = ap (λ (o : Option TableDecl). option_map_or (λ t. t.schema) o []) s.1 in
+    let there : slice_get (schema_at tables place) column ≡ Some c.0 = ap (λ (columns : List Column). slice_get columns column) schema ∙ c.1 in
+    let are : are_columns (schema_at tables place) ≡ true = ap are_columns schema ∙ (table_parts s.0 (table_at tables place s.0 all s.1)).columns in
+    total_back tables place column low high c.0 (stands tables place s.0 all own s.1) there (column_stands (schema_at tables place) c.0 column are there g.0) g.1 f.1
+
 -- a command is read back from its words
 pub command_back : (tables : List TableDecl) (read : Command) → list_all is_table tables ≡ true → have_own_names tables ≡ true → is_command tables read ≡ true → list_all has_only_bytes (written_row read) ≡ true → CommandBack tables read
-command_back tables command.Begin all own is bytes = alone_back tables (codes "begin") command.Begin refl refl (plain_word (codes "begin") refl)
+command_back tables (command.Begin checked) all own is bytes = begin_back tables checked
 command_back tables (command.Get place key) all own is bytes = key_at tables (codes "get") command.Get place key all own refl refl (plain_word (codes "get") refl) is
 command_back tables (command.Scan place) all own is bytes = table_command tables (codes "scan") command.Scan place refl refl (plain_word (codes "scan") refl) (place_stands tables place all own is)
+command_back tables (command.Range place low high) all own is bytes = range_at tables place low high all own is
+command_back tables (command.Total place column low high) all own is bytes = total_at tables place column low high all own is
 command_back tables (command.Insert place row) all own is bytes = row_at tables (codes "insert") command.Insert place row all own refl refl (plain_word (codes "insert") refl) is bytes
 command_back tables (command.Update place row) all own is bytes = row_at tables (codes "update") command.Update place row all own refl refl (plain_word (codes "update") refl) is bytes
 command_back tables (command.Delete place key) all own is bytes = key_at tables (codes "delete") command.Delete place key all own refl refl (plain_word (codes "delete") refl) is

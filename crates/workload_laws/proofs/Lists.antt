@@ -112,3 +112,17 @@ own_names-before name (y ∷ xs) x ys own =
     let n = or_parts (list_any (λ z. bytes_eq (name z) (name y)) xs) (bytes_eq (name x) (name y) || list_any (λ z. bytes_eq (name z) (name y)) ys) (sym (list_any-append (λ z. bytes_eq (name z) (name y)) xs (x ∷ ys)) ∙ not-true _ o.0) in
     let here = or_parts (bytes_eq (name x) (name y)) (list_any (λ z. bytes_eq (name z) (name y)) ys) n.1 in
     rw (bytes_eq-sym (name y) (name x), here.0) (own_names-before name xs x ys o.1)
+
+-- where all of a list pass each of two tests, all pass both
+pub all_and : {X : Type 0} (p q : X → Bool) (xs : List X) → list_all p xs ≡ true → list_all q xs ≡ true → list_all (λ x. p x && q x) xs ≡ true
+all_and p q [] ps qs = refl
+all_and p q (x ∷ xs) ps qs = let a = and_parts (p x) (list_all p xs) ps in let b = and_parts (q x) (list_all q xs) qs in joined (joined a.0 b.0) (all_and p q xs a.1 b.1)
+
+-- where all of a list pass two tests, all pass each
+pub all_both : {X : Type 0} (p q : X → Bool) (xs : List X) → list_all (λ x. p x && q x) xs ≡ true → (list_all p xs ≡ true) × (list_all q xs ≡ true)
+all_both p q [] both = (refl, refl)
+all_both p q (x ∷ xs) both =
+    let a = and_parts (p x && q x) (list_all (λ y. p y && q y) xs) both in
+    let b = and_parts (p x) (q x) a.0 in
+    let rest = all_both p q xs a.1 in
+    (joined b.0 rest.0, joined b.1 rest.1)

@@ -8,6 +8,7 @@ use Rattle.cell_model.specs.declared.cell.Cell.{Cell}
 use Rattle.cell_model.specs.declared.cell.Cell.TheVariants.{Num}
 use Rattle.cell_model.specs.declared.table.TableDecl.{TableDecl}
 use Rattle.workload_spec.specs.declared.command.Command.{Command}
+use Rattle.workload_spec.specs.declared.command.Command.TheVariants as command
 use Rattle.workload_spec.specs.declared.extent.Commands.{Commands}
 use Rattle.workload_spec.specs.declared.extent.Extent.{Extent}
 use Rattle.workload_spec.specs.declared.script.Cause.TheVariants as cause
@@ -15,8 +16,8 @@ use Rattle.workload_spec.specs.declared.script.Line.{Line}
 use Rattle.workload_spec.specs.Extents.{whole, is_taken}
 use Rattle.workload_spec.specs.Valid.{is_block_of, is_export}
 use Rattle.workload_spec.specs.Reading.{natural_of, onto_first, words_of}
-use Rattle.workload_spec.specs.Grammar.{◌>>=◌, or_cause, rule, word, no_word, number, Form, Alone, OfTable, OfKey, OfRow, OfBlock, forms, form_of, table_named, key_in, schema_at, cells_of, formed, line_of, Fault, on_line, rounds_from}
-use Rattle.workload_laws.proofs.Results.{step, some_of, eq_of}
+use Rattle.workload_spec.specs.Grammar.{◌>>=◌, or_cause, rule, word, no_word, number, Form, Alone, OfTable, OfKey, OfRow, OfBlock, OfBegin, OfRange, OfTotal, forms, form_of, table_named, key_in, schema_at, cells_of, numbers_named, number_in, formed, line_of, Fault, on_line, rounds_from}
+use Rattle.workload_laws.proofs.Results.{step, gives, some_of, rule_of, rule_back, eq_of}
 use Rattle.workload_laws.proofs.Lists.{joined, find_is}
 use Rattle.workload_laws.proofs.Rounds.{lines_of}
 use Rattle.workload_laws.proofs.Commands.{Each, each_found}
@@ -24,87 +25,185 @@ use Rattle.workload_laws.proofs.Narrows.{Narrows, alike, behind, joint, narrow_o
 
 -- each command of the form is taken as this flag says
 abbrev pub TakenAs : Commands → Bool → Form → Type 0
-TakenAs taken flag (Alone command) = is_taken taken command ≡ flag
-TakenAs taken flag (OfTable command) = (table : ℕ) → is_taken taken (command table) ≡ flag
-TakenAs taken flag (OfKey command) = (table : ℕ) (key : ℤ) → is_taken taken (command table key) ≡ flag
-TakenAs taken flag (OfRow command) = (table : ℕ) (row : List Cell) → is_taken taken (command table row) ≡ flag
-TakenAs taken flag (OfBlock command) = (table block : ℕ) → is_taken taken (command table block) ≡ flag
+TakenAs taken flag (Alone made) = is_taken taken made ≡ flag
+TakenAs taken flag (OfTable make) = (table : ℕ) → is_taken taken (make table) ≡ flag
+TakenAs taken flag (OfKey make) = (table : ℕ) (key : ℤ) → is_taken taken (make table key) ≡ flag
+TakenAs taken flag (OfRow make) = (table : ℕ) (row : List Cell) → is_taken taken (make table row) ≡ flag
+TakenAs taken flag (OfBlock make) = (table block : ℕ) → is_taken taken (make table block) ≡ flag
+TakenAs taken flag (OfBegin takes_checked) = (taken.begin ≡ flag) × (taken.begin_checked ≡ takes_checked)
+TakenAs taken flag OfRange = taken.range ≡ flag
+TakenAs taken flag OfTotal = taken.total ≡ flag
 
 -- A command is taken as this flag says.
 abbrev IsTaken : Commands → Bool → Command → Type 0
 IsTaken taken flag made = is_taken taken made ≡ flag
 
+-- A begin is taken as its form is, where its word is.
+begin_taken : (taken : Commands) (flag takes_checked : Bool) (words : List (List ℕ)) (tables : List TableDecl) (made : Command) → TakenAs taken flag (OfBegin takes_checked) → formed tables (OfBegin takes_checked) words ≡ Ok made → is_taken taken made ≡ flag
+begin_taken taken flag takes_checked [] tables made is e =
+    let same : command.Begin false ≡ made = cc in
+    subst (IsTaken taken flag) same (and_true taken.begin ∙ is.0)
+  where
+    and_true : (b : Bool) → (b && true) ≡ b
+    and_true true = refl
+    and_true false = refl
+begin_taken taken flag takes_checked (how ∷ words) tables made is e =
+    step (rule cause.Command (takes_checked && bytes_eq how (codes "checked"))) _ made e (λ u is1 e1.
+    step (no_word cause.Command words) _ made e1 (λ v is2 e2.
+    let same : command.Begin true ≡ made = cc in
+    let takes : takes_checked ≡ true = (and_parts takes_checked (bytes_eq how (codes "checked")) (rule_of cause.Command (takes_checked && bytes_eq how (codes "checked")) u is1)).0 in
+    subst (IsTaken taken flag) same (taken_by taken.begin taken.begin_checked (is.1 ∙ takes) ∙ is.0)))
+  where
+    taken_by : (b c : Bool) → c ≡ true → (b && (false || c)) ≡ b
+    taken_by true c e = e
+    taken_by false c e = refl
+
 -- what is read by a form is taken as the form is
 formed_taken : (taken : Commands) (flag : Bool) (tables : List TableDecl) (form : Form) (words : List (List ℕ)) (made : Command) → TakenAs taken flag form → formed tables form words ≡ Ok made → is_taken taken made ≡ flag
-formed_taken taken flag tables (Alone command) words made is e =
-    step (no_word cause.Command words) _ made e (λ end is1 e1. let same : command ≡ made = cc in subst (IsTaken taken flag) same is)
-formed_taken taken flag tables (OfTable command) words made is e =
+formed_taken taken flag tables (Alone alone) words made is e =
+    step (no_word cause.Command words) _ made e (λ end is1 e1. let same : alone ≡ made = cc in subst (IsTaken taken flag) same is)
+formed_taken taken flag tables (OfTable make) words made is e =
     step (word cause.Command words) _ made e (λ name is1 e1.
     step (no_word cause.Command name.1) _ made e1 (λ end is2 e2.
-    step (table_named tables name.0) _ made e2 (λ table is3 e3. let same : command table ≡ made = cc in subst (IsTaken taken flag) same (is table))))
-formed_taken taken flag tables (OfKey command) words made is e =
+    step (table_named tables name.0) _ made e2 (λ table is3 e3. let same : make table ≡ made = cc in subst (IsTaken taken flag) same (is table))))
+formed_taken taken flag tables (OfKey make) words made is e =
     step (word cause.Command words) _ made e (λ name is1 e1.
     step (word cause.Command name.1) _ made e1 (λ key_word is2 e2.
     step (no_word cause.Command key_word.1) _ made e2 (λ end is3 e3.
     step (table_named tables name.0) _ made e3 (λ table is4 e4.
-    step (key_in key_word.0) _ made e4 (λ key is5 e5. let same : command table key ≡ made = cc in subst (IsTaken taken flag) same (is table key))))))
-formed_taken taken flag tables (OfRow command) words made is e =
+    step (key_in key_word.0) _ made e4 (λ key is5 e5. let same : make table key ≡ made = cc in subst (IsTaken taken flag) same (is table key))))))
+formed_taken taken flag tables (OfRow make) words made is e =
     step (word cause.Command words) _ made e (λ name is1 e1.
     step (word cause.Command name.1) _ made e1 (λ key_word is2 e2.
     step (table_named tables name.0) _ made e2 (λ table is3 e3.
     step (rule cause.Command (length (schema_at tables table) == length key_word.1 + 1)) _ made e3 (λ all is4 e4.
     step (key_in key_word.0) _ made e4 (λ key is5 e5.
-    step (cells_of (drop 1 (schema_at tables table)) key_word.1) _ made e5 (λ cells is6 e6. let same : command table (Num key ∷ cells) ≡ made = cc in subst (IsTaken taken flag) same (is table (Num key ∷ cells))))))))
-formed_taken taken flag tables (OfBlock command) words made is e =
+    step (cells_of (drop 1 (schema_at tables table)) key_word.1) _ made e5 (λ cells is6 e6. let same : make table (Num key ∷ cells) ≡ made = cc in subst (IsTaken taken flag) same (is table (Num key ∷ cells))))))))
+formed_taken taken flag tables (OfBlock make) words made is e =
     step (word cause.Command words) _ made e (λ name is1 e1.
     step (word cause.Command name.1) _ made e1 (λ block_word is2 e2.
     step (no_word cause.Command block_word.1) _ made e2 (λ end is3 e3.
     step (table_named tables name.0) _ made e3 (λ table is4 e4.
     step (or_cause cause.Block (natural_of block_word.0)) _ made e4 (λ block is5 e5.
-    step (rule cause.Block (is_block_of tables table block)) _ made e5 (λ there is6 e6. let same : command table block ≡ made = cc in subst (IsTaken taken flag) same (is table block)))))))
+    step (rule cause.Block (is_block_of tables table block)) _ made e5 (λ there is6 e6. let same : make table block ≡ made = cc in subst (IsTaken taken flag) same (is table block)))))))
+formed_taken taken flag tables (OfBegin takes_checked) words made is e = begin_taken taken flag takes_checked words tables made is e
+formed_taken taken flag tables OfRange words made is e =
+    step (word cause.Command words) _ made e (λ name is1 e1.
+    step (word cause.Command name.1) _ made e1 (λ low_word is2 e2.
+    step (word cause.Command low_word.1) _ made e2 (λ high_word is3 e3.
+    step (no_word cause.Command high_word.1) _ made e3 (λ end is4 e4.
+    step (table_named tables name.0) _ made e4 (λ table is5 e5.
+    step (key_in low_word.0) _ made e5 (λ low is6 e6.
+    step (key_in high_word.0) _ made e6 (λ high is7 e7. let same : command.Range table low high ≡ made = cc in subst (IsTaken taken flag) same is)))))))
+formed_taken taken flag tables OfTotal words made is e =
+    step (word cause.Command words) _ made e (λ name is1 e1.
+    step (word cause.Command name.1) _ made e1 (λ column_word is2 e2.
+    step (word cause.Command column_word.1) _ made e2 (λ low_word is3 e3.
+    step (word cause.Command low_word.1) _ made e3 (λ high_word is4 e4.
+    step (no_word cause.Command high_word.1) _ made e4 (λ end is5 e5.
+    step (table_named tables name.0) _ made e5 (λ table is6 e6.
+    step (numbers_named (schema_at tables table) column_word.0) _ made e6 (λ column is7 e7.
+    step (number_in column.1 low_word.0) _ made e7 (λ low is8 e8.
+    step (number_in column.1 high_word.0) _ made e8 (λ high is9 e9. let same : command.Total table column.0 low high ≡ made = cc in subst (IsTaken taken flag) same is)))))))))
+
+-- The same form of the whole format, and of an extent that takes these commands.
+abbrev widened : Form → Form
+widened (Alone made) = Alone made
+widened (OfTable make) = OfTable make
+widened (OfKey make) = OfKey make
+widened (OfRow make) = OfRow make
+widened (OfBlock make) = OfBlock make
+widened (OfBegin takes_checked) = OfBegin true
+widened OfRange = OfRange
+widened OfTotal = OfTotal
+
+abbrev narrowed : Commands → Form → Form
+narrowed taken (Alone made) = Alone made
+narrowed taken (OfTable make) = OfTable make
+narrowed taken (OfKey make) = OfKey make
+narrowed taken (OfRow make) = OfRow make
+narrowed taken (OfBlock make) = OfBlock make
+narrowed taken (OfBegin takes_checked) = OfBegin taken.begin_checked
+narrowed taken OfRange = OfRange
+narrowed taken OfTotal = OfTotal
+
+-- A command that a form reads is read by the same form of the whole format.
+formed_wide : (tables : List TableDecl) (form : Form) (words : List (List ℕ)) (made : Command) → formed tables form words ≡ Ok made → formed tables (widened form) words ≡ Ok made
+formed_wide tables (Alone alone) words made e = e
+formed_wide tables (OfTable make) words made e = e
+formed_wide tables (OfKey make) words made e = e
+formed_wide tables (OfRow make) words made e = e
+formed_wide tables (OfBlock make) words made e = e
+formed_wide tables (OfBegin takes_checked) [] made e = e
+formed_wide tables (OfBegin true) (how ∷ words) made e = e
+formed_wide tables (OfBegin false) (how ∷ words) made e = absurd cc
+formed_wide tables OfRange words made e = e
+formed_wide tables OfTotal words made e = e
+
+-- A checked begin that is read is taken only where its word is.
+checked_taken : (taken : Commands) (made : Command) → command.Begin true ≡ made → is_taken taken made ≡ true → taken.begin_checked ≡ true
+checked_taken taken made same is = (and_parts taken.begin taken.begin_checked (ap (is_taken taken) same ∙ is)).1
+
+-- A command that a form of the whole format reads, and that is taken, is read by the same form of
+-- those that are taken.
+formed_narrow : (taken : Commands) (tables : List TableDecl) (form : Form) (words : List (List ℕ)) (made : Command) → formed tables form words ≡ Ok made → is_taken taken made ≡ true → formed tables (narrowed taken form) words ≡ Ok made
+formed_narrow taken tables (Alone alone) words made e is = e
+formed_narrow taken tables (OfTable make) words made e is = e
+formed_narrow taken tables (OfKey make) words made e is = e
+formed_narrow taken tables (OfRow make) words made e is = e
+formed_narrow taken tables (OfBlock make) words made e is = e
+formed_narrow taken tables (OfBegin takes_checked) [] made e is = e
+formed_narrow taken tables (OfBegin takes_checked) (how ∷ words) made e is =
+    step (rule cause.Command (takes_checked && bytes_eq how (codes "checked"))) _ made e (λ u is1 e1.
+    step (no_word cause.Command words) _ made e1 (λ v is2 e2.
+    let same : command.Begin true ≡ made = cc in
+    let named = (and_parts takes_checked (bytes_eq how (codes "checked")) (rule_of cause.Command (takes_checked && bytes_eq how (codes "checked")) u is1)).1 in
+    gives (rule cause.Command (taken.begin_checked && bytes_eq how (codes "checked"))) _ (Ok made) tt (rule_back cause.Command (taken.begin_checked && bytes_eq how (codes "checked")) (joined (checked_taken taken made same is) named))
+    (gives (no_word cause.Command words) _ (Ok made) v is2 e2)))
+formed_narrow taken tables OfRange words made e is = e
+formed_narrow taken tables OfTotal words made e is = e
 
 -- A word with its form, and a flag that says whether it is taken.
 abbrev Entry : Type 0
 Entry = List ℕ × Form × Bool
 
--- an entry's form is the one of its word in the whole format, and in an extent where its flag is
--- set
+-- an entry's form is the same as the one of its word in the whole format, and is taken as its flag
+-- says
 record IsForm (extent : Extent) (entry : Entry) : Type 0 where
-  known : form_of whole entry.0 ≡ Some entry.1
-  taken : entry.2 ≡ true → form_of extent entry.0 ≡ Some entry.1
+  known : form_of whole entry.0 ≡ Some (widened entry.1)
   flag : TakenAs extent.commands entry.2 entry.1
 
 -- Each form of an extent is the whole format's, and is taken as its flag says.
 each_form : (extent : Extent) → Each (IsForm extent) (forms extent.commands)
 each_form extent = (
-  record { known = refl; taken = λ e. rw e refl; flag = refl },
+  record { known = refl; flag = (refl, refl) },
   (
-    record { known = refl; taken = λ e. rw e refl; flag = λ t k. refl },
+    record { known = refl; flag = λ t k. refl },
     (
-      record { known = refl; taken = λ e. rw e refl; flag = λ t. refl },
+      record { known = refl; flag = λ t. refl },
       (
-        record { known = refl; taken = λ e. rw e refl; flag = λ t r. refl },
+        record { known = refl; flag = λ t r. refl },
         (
-          record { known = refl; taken = λ e. rw e refl; flag = λ t r. refl },
+          record { known = refl; flag = λ t r. refl },
           (
-            record { known = refl; taken = λ e. rw e refl; flag = λ t k. refl },
+            record { known = refl; flag = λ t k. refl },
             (
-              record { known = refl; taken = λ e. rw e refl; flag = refl },
+              record { known = refl; flag = refl },
               (
-                record { known = refl; taken = λ e. rw e refl; flag = refl },
+                record { known = refl; flag = refl },
                 (
-                  record { known = refl; taken = λ e. rw e refl; flag = refl },
+                  record { known = refl; flag = refl },
                   (
-                    record { known = refl; taken = λ e. rw e refl; flag = refl },
+                    record { known = refl; flag = refl },
                     (
-                      record { known = refl; taken = λ e. rw e refl; flag = λ t. refl },
+                      record { known = refl; flag = λ t. refl },
                       (
-                        record { known = refl; taken = λ e. rw e refl; flag = λ t b. refl },
+                        record { known = refl; flag = λ t b. refl },
                         (
-                          record { known = refl; taken = λ e. rw e refl; flag = λ t b. refl },
+                          record { known = refl; flag = λ t b. refl },
                           (
-                            record { known = refl; taken = λ e. rw e refl; flag = λ t. refl },
-                            tt,
+                            record { known = refl; flag = λ t. refl },
+                            (record { known = refl; flag = refl }, (record { known = refl; flag = refl }, tt)),
                           ),
                         ),
                       ),
@@ -129,26 +228,37 @@ form_by (Some entry) form e = (entry, refl, cc)
 abbrev stands_for : List ℕ → Entry → Bool
 stands_for first entry = bytes_eq entry.0 first && entry.2
 
--- a form of an extent is the whole format's, and its commands are taken
-form_narrow : (extent : Extent) (first : List ℕ) (form : Form) → form_of extent first ≡ Some form → (form_of whole first ≡ Some form) × TakenAs extent.commands true form
-form_narrow extent first form e =
+-- a form of the whole format that reads this command
+record Wide (tables : List TableDecl) (first : List ℕ) (words : List (List ℕ)) (made : Command) : Type 0 where
+  form : Form
+  known : form_of whole first ≡ Some form
+  reads : formed tables form words ≡ Ok made
+
+-- a command that is read within an extent is the whole format's, and is taken
+form_narrow : (extent : Extent) (tables : List TableDecl) (first : List ℕ) (form : Form) (words : List (List ℕ)) (made : Command) → form_of extent first ≡ Some form → formed tables form words ≡ Ok made
+    → Wide tables first words made × (is_taken extent.commands made ≡ true)
+form_narrow extent tables first form words made e read =
     let f = form_by (find (stands_for first) (forms extent.commands)) form e in
     let passes = and_parts (bytes_eq f.0.0 first) f.0.2 (find_is (stands_for first) (forms extent.commands) f.0 f.1) in
     let is = each_found (IsForm extent) (stands_for first) (forms extent.commands) f.0 (each_form extent) f.1 in
     let same = eq_of f.0.0 first passes.0 in (
-      subst (λ (text : List ℕ). form_of whole text ≡ Some form) same (is.known ∙ ap Some f.2),
-      subst (λ (made : Form). TakenAs extent.commands true made) f.2 (subst (λ (flag : Bool). TakenAs extent.commands flag f.0.1) passes.1 is.flag),
+      record {
+        form = widened form;
+        known = subst (λ (text : List ℕ). form_of whole text ≡ Some (widened form)) same (is.known ∙ ap (λ (made : Form). Some (widened made)) f.2);
+        reads = formed_wide tables form words made read;
+      },
+      formed_taken extent.commands true tables form words made (subst (λ (form : Form). TakenAs extent.commands true form) f.2 (subst (λ (flag : Bool). TakenAs extent.commands flag f.0.1) passes.1 is.flag)) read,
     )
 
 -- the entry of a word in the whole format beside the extent's
 abbrev Beside : Extent → Entry → Type 0
-Beside extent entry = (flag : Bool) × TakenAs extent.commands flag entry.1 × (flag ≡ true → form_of extent entry.0 ≡ Some entry.1)
+Beside extent entry = (flag : Bool) × TakenAs extent.commands flag (narrowed extent.commands entry.1) × (flag ≡ true → form_of extent entry.0 ≡ Some (narrowed extent.commands entry.1))
 
 -- Each form of the whole format stands beside the extent's.
 each_beside : (extent : Extent) → Each (Beside extent) (forms whole.commands)
 each_beside extent =
     let c = extent.commands in (
-      (c.begin, refl, λ e. rw e refl),
+      (c.begin, (refl, refl), λ e. rw e refl),
       (
         (c.get, λ t k. refl, λ e. rw e refl),
         (
@@ -175,7 +285,7 @@ each_beside extent =
                               (c.gather, λ t b. refl, λ e. rw e refl),
                               (
                                 (c.export, λ t. refl, λ e. rw e refl),
-                                tt,
+                                ((c.range, refl, λ e. rw e refl), ((c.total, refl, λ e. rw e refl), tt)),
                               ),
                             ),
                           ),
@@ -191,15 +301,27 @@ each_beside extent =
       ),
     )
 
--- a form of the whole format is the extent's where a command that it makes is taken
+-- a form of an extent that reads this command
+record Narrow (extent : Extent) (tables : List TableDecl) (first : List ℕ) (words : List (List ℕ)) (made : Command) : Type 0 where
+  form : Form
+  known : form_of extent first ≡ Some form
+  reads : formed tables form words ≡ Ok made
+
+-- a command of the whole format that is taken is read within the extent
 form_back : (extent : Extent) (tables : List TableDecl) (first : List ℕ) (form : Form) (words : List (List ℕ)) (made : Command) → form_of whole first ≡ Some form → formed tables form words ≡ Ok made → is_taken extent.commands made ≡ true
-    → form_of extent first ≡ Some form
+    → Narrow extent tables first words made
 form_back extent tables first form words made e read is =
     let f = form_by (find (stands_for first) (forms whole.commands)) form e in
     let same = eq_of f.0.0 first (and_parts (bytes_eq f.0.0 first) f.0.2 (find_is (stands_for first) (forms whole.commands) f.0 f.1)).0 in
     let b = each_found (Beside extent) (stands_for first) (forms whole.commands) f.0 (each_beside extent) f.1 in
-    let taken = formed_taken extent.commands b.0 tables form words made (subst (TakenAs extent.commands b.0) f.2 b.1) read in
-    subst (λ (text : List ℕ). form_of extent text ≡ Some form) same (b.2 (sym taken ∙ is) ∙ ap Some f.2)
+    let narrow : Form = narrowed extent.commands form in
+    let reads : formed tables narrow words ≡ Ok made = formed_narrow extent.commands tables form words made read is in
+    let taken = formed_taken extent.commands b.0 tables narrow words made (subst (λ (form : Form). TakenAs extent.commands b.0 (narrowed extent.commands form)) f.2 b.1) reads in
+    record {
+      form = narrow;
+      known = subst (λ (text : List ℕ). form_of extent text ≡ Some narrow) same (b.2 (sym taken ∙ is) ∙ ap (λ (form : Form). Some (narrowed extent.commands form)) f.2);
+      reads = reads;
+    }
 
 -- a line of a command that is taken
 abbrev pub LineTaken : Extent → Line → Type 0
@@ -209,19 +331,24 @@ LineTaken extent line = is_taken extent.commands line.command ≡ true
 pub narrow_line : (extent : Extent) (tables : List TableDecl) (sessions : ℕ) (exported : Bool) (words : List (List ℕ)) → Narrows (line_of extent tables sessions exported words) (line_of whole tables sessions exported words) (LineTaken extent)
 narrow_line extent tables sessions exported words =
     behind (number cause.Session 1 sessions words) _ _ (LineTaken extent) (λ session is1.
-    behind (word cause.Command session.1) _ _ (LineTaken extent) (λ first is2.
-    joint (or_cause cause.Command (form_of extent first.0)) (or_cause cause.Command (form_of whole first.0)) (λ form. form_of extent first.0 ≡ Some form) _ _ (LineTaken extent)
-    (record {
-      to = λ form is. let here = some_of cause.Command (form_of extent first.0) form is in (ap (or_cause cause.Command) (form_narrow extent first.0 form here).0, here);
-      back = λ form is here. ap (or_cause cause.Command) here;
-    })
-    (λ form is3 here. alike (formed tables form first.1 >>= (λ command. rule cause.Export (not (exported && is_export command)) >>= (λ once. Ok (record { session = session.0; command = command })))) (LineTaken extent)
-    (λ line made. step (formed tables form first.1) _ line made (λ read is4 rest. step (rule cause.Export (not (exported && is_export read))) _ line rest (λ once is5 same.
-    let e : record { session = session.0; command = read } ≡ line = cc in
-    subst (LineTaken extent) e (formed_taken extent.commands true tables form first.1 read (form_narrow extent first.0 form here).1 is4)))))
-    (λ form line is3 made kept. step (formed tables form first.1) _ line made (λ read is4 rest. step (rule cause.Export (not (exported && is_export read))) _ line rest (λ once is5 same.
-    let e : record { session = session.0; command = read } ≡ line = cc in
-    form_back extent tables first.0 form first.1 read (some_of cause.Command (form_of whole first.0) form is3) is4 (subst (LineTaken extent) (sym e) kept))))))
+    behind (word cause.Command session.1) _ _ (LineTaken extent) (λ first is2. record {
+      to = λ line e.
+          step (or_cause cause.Command (form_of extent first.0)) _ line e (λ form is3 e3.
+          step (formed tables form first.1) _ line e3 (λ read is4 e4.
+          step (rule cause.Export (not (exported && is_export read))) _ line e4 (λ once is5 e5.
+          let same : record { session = session.0; command = read } ≡ line = cc in
+          let n = form_narrow extent tables first.0 form first.1 read (some_of cause.Command (form_of extent first.0) form is3) is4 in (
+            gives (or_cause cause.Command (form_of whole first.0)) _ (Ok line) n.0.form (ap (or_cause cause.Command) n.0.known) (gives (formed tables n.0.form first.1) _ (Ok line) read n.0.reads e4),
+            subst (LineTaken extent) same n.1,
+          ))));
+      back = λ line e kept.
+          step (or_cause cause.Command (form_of whole first.0)) _ line e (λ form is3 e3.
+          step (formed tables form first.1) _ line e3 (λ read is4 e4.
+          step (rule cause.Export (not (exported && is_export read))) _ line e4 (λ once is5 e5.
+          let same : record { session = session.0; command = read } ≡ line = cc in
+          let n = form_back extent tables first.0 form first.1 read (some_of cause.Command (form_of whole first.0) form is3) is4 (subst (LineTaken extent) (sym same) kept) in
+          gives (or_cause cause.Command (form_of extent first.0)) _ (Ok line) n.form (ap (or_cause cause.Command) n.known) (gives (formed tables n.form first.1) _ (Ok line) read n.reads e4))));
+    }))
 
 -- Rounds.
 

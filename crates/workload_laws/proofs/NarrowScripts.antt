@@ -139,6 +139,10 @@ read_within version extent lines script is =
 pub extent_is : (version : ℕ) → is_extent (extent_of version) ≡ true
 extent_is version = refl
 
+-- the lines of a workload within an extent have commands that it takes
+pub commands_taken : (extent : Extent) (script : Script) → runs_within extent script ≡ true → list_all (λ line. is_taken extent.commands line.command) (all_lines script) ≡ true
+commands_taken extent script is = (keeps extent script is).rounds.each
+
 -- the tables of a workload within an extent have kinds that it takes
 pub kinds_taken : (extent : Extent) (script : Script) → runs_within extent script ≡ true → list_all (λ table. are_taken_kinds extent.later_kinds table.schema) script.tables ≡ true
 kinds_taken extent script is = each_taken script.tables (keeps extent script is).tables.each

@@ -12,14 +12,14 @@ use Rattle.workload_spec.specs.declared.script.Script.{Script}
 use Rattle.workload_spec.specs.Words.{spaced, line_feed, lines_text}
 use Rattle.workload_spec.specs.ScriptText.{table_text, round_lines, script_text}
 use Rattle.workload_spec.specs.Reading.{words_of}
-use Rattle.workload_spec.specs.Valid.{is_within, is_table, have_own_names, is_version, has_version, is_valid, most_tables, most_sessions, most_workers, most_turns}
+use Rattle.workload_spec.specs.Valid.{is_within, is_table, have_own_names, takes_command, all_lines, is_version, has_version, is_valid, most_tables, most_sessions, most_workers, most_turns}
 use Rattle.workload_spec.specs.Extents.{whole}
 use Rattle.workload_spec.specs.Grammar.{rule, no_word, keyword, number, on_line, next_line, is_table_line, tables_from, rounds_from, sessions_of, workers_of, version_of, script_behind}
 use Rattle.workload_laws.specs.Bytes.{writes_only_bytes}
 use Rattle.workload_laws.proofs.Results.{step, rule_of, on_line_is, no_word_is, keyword_is, number_is, eq_of}
-use Rattle.workload_laws.proofs.Lists.{joined}
+use Rattle.workload_laws.proofs.Lists.{joined, all_and}
 use Rattle.workload_laws.proofs.Parts.{line_joined}
-use Rattle.workload_laws.proofs.Rounds.{rest_text, line_first, ReadsRounds, rounds_are}
+use Rattle.workload_laws.proofs.Rounds.{rest_text, line_first, is_line_of, lines_of, ReadsRounds, rounds_are}
 use Rattle.workload_laws.proofs.Heads.{next_is, tables_are, tables_some}
 
 -- the line of sessions that is read, and its bounds
@@ -84,22 +84,24 @@ version_is line version e = by (bytes_eq line (codes "store 1")) (bytes_eq line 
 pub version_back : (version : ℕ) → is_version version ≡ true → version_of (spaced (store_words version)) ≡ Some version
 version_back version is = version_by (λ v. version_of (spaced (store_words v)) ≡ Some v) (rw (decimal_digit 1 (omega arith)) refl) (rw (decimal_digit 2 (omega arith)) refl) version is
 
--- a script of these parts is a workload, where its version is one and has the kinds of its columns
+-- a script of these parts is a workload, where its version is one that has the kinds of its columns
+-- and takes its commands
 valid : (version : ℕ) (tables : List TableDecl) (sessions workers turns : ℕ) (rounds : List (List Line)) (lines : List (List ℕ)) → 0 < length tables → nat_le (length tables) most_tables ≡ true → list_all is_table tables ≡ true → have_own_names tables ≡ true
     → is_within 1 most_sessions sessions ≡ true → is_within 0 most_workers workers ≡ true → is_within 0 most_turns turns ≡ true → ReadsRounds tables sessions false lines rounds
     → has_version (record { version = version; tables = tables; sessions = sessions; workers = workers; turns = turns; rounds = rounds }) ≡ true
+    → list_all (λ line. takes_command version line.command) (lines_of rounds) ≡ true
     → is_valid (record { version = version; tables = tables; sessions = sessions; workers = workers; turns = turns; rounds = rounds }) ≡ true
-valid version tables sessions workers turns rounds lines some few each own in_sessions in_workers in_turns all has =
+valid version tables sessions workers turns rounds lines some few each own in_sessions in_workers in_turns all has taken =
     joined (joined (joined
     (joined (joined (joined (joined (joined (joined has (joined (le-leb 1 (length tables) some) few)) each) own) in_sessions) (and_parts (nat_le 0 workers) _ in_workers).1) (and_parts (nat_le 0 turns) _ in_turns).1)
-    (lt-ltb 0 (length rounds) all.some)) all.each) (le-leb _ 1 (omega (arith, all.once)))
+    (lt-ltb 0 (length rounds) all.some)) (all_and (is_line_of tables sessions) (λ line. takes_command version line.command) (lines_of rounds) all.each taken)) (le-leb _ 1 (omega (arith, all.once)))
 
 -- what lines behind the first that are read as a script of a version are: its text behind that
--- line, and it is a workload where it has its version
+-- line, and it is a workload where it has its version and the version takes its commands
 pub record ReadsBehind (version : ℕ) (lines : List (List ℕ)) (script : Script) : Type 0 where
   pub told : script.version ≡ version
   pub text : script_text script ≡ spaced (store_words version) ++ line_feed ∷ rest_text lines
-  pub valid : has_version script ≡ true → is_valid script ≡ true
+  pub valid : has_version script ≡ true → list_all (λ line. takes_command script.version line.command) (all_lines script) ≡ true → is_valid script ≡ true
   pub bytes : writes_only_bytes script ≡ true
 
 -- the lines that are read as a script are its text behind the first, and it is a workload

@@ -1,5 +1,5 @@
 -- Workloads are read back from their texts.
-use Rattle.std.proofs.Common.{◌≡◌, ℕ, ◌+◌, ◌^◌, ◌<◌, ◌≤◌, Bool, true, false, List, [], ◌∷◌, ◌++◌, length, map, refl, ap, ◌∙◌, arith, append_assoc, length-append}
+use Rattle.std.proofs.Common.{◌≡◌, ℕ, ◌+◌, ◌^◌, ◌<◌, ◌≤◌, true, false, List, [], ◌∷◌, ◌++◌, length, map, refl, ap, ◌∙◌, arith, append_assoc, length-append}
 use Rattle.std.specs.Prelude.{◌&&◌, nat_le, nat_lt, bytes_eq, codes, decimal, count_by, Result, Ok}
 use Rattle.std.specs.List.{list_all}
 use Rattle.std.proofs.lemmas.Bool.{ltb-true, leb-true, le-leb, and_parts}
@@ -13,12 +13,12 @@ use Rattle.workload_spec.specs.declared.script.Script.{Script}
 use Rattle.workload_spec.specs.Words.{line_feed, spaced}
 use Rattle.workload_spec.specs.ScriptText.{table_text, round_lines, script_lines, script_text}
 use Rattle.workload_spec.specs.Reading.{parts, words_of}
-use Rattle.workload_spec.specs.Valid.{is_within, is_table, have_own_names, is_line, is_export, all_lines, is_version, takes_later_kinds, are_taken_kinds, has_version, has_head, is_valid, most_tables, most_sessions, most_workers, most_turns}
+use Rattle.workload_spec.specs.Valid.{is_within, is_table, have_own_names, is_line, takes_command, is_export, all_lines, is_version, takes_later_kinds, are_taken_kinds, has_version, has_head, is_valid, most_tables, most_sessions, most_workers, most_turns}
 use Rattle.workload_spec.specs.Extents.{whole}
 use Rattle.workload_spec.specs.Grammar.{rule, no_word, keyword, number, Fault, on_line, next_line, is_table_line, tables_from, rounds_from, sessions_of, workers_of, script_behind}
 use Rattle.workload_laws.specs.Bytes.{has_only_bytes, written_row, writes_only_bytes}
 use Rattle.workload_laws.proofs.Results.{gives, rule_back}
-use Rattle.workload_laws.proofs.Lists.{joined}
+use Rattle.workload_laws.proofs.Lists.{joined, all_and, all_both}
 use Rattle.workload_laws.proofs.Scripts.{store_words, version_by}
 use Rattle.workload_laws.proofs.Tables.{table_words}
 use Rattle.workload_laws.proofs.Apart.{AreWords, plain_word, words_apart, words_whole, is_whole}
@@ -105,6 +105,7 @@ pub record ScriptParts (script : Script) : Type 0 where
   pub turns : is_within 0 most_turns script.turns ≡ true
   pub rounds : 0 < length script.rounds
   pub lines : list_all (is_line_of script.tables script.sessions) (all_lines script) ≡ true
+  pub taken : list_all (λ line. takes_command script.version line.command) (all_lines script) ≡ true
   pub once : exports_of (all_lines script) ≤ 1
 
 -- a valid workload keeps the limits of each of its parts
@@ -120,6 +121,7 @@ script_parts script valid =
     let h2 = and_parts (has_version script && is_within 1 most_tables (length script.tables)) (list_all is_table script.tables) h3.0 in
     let h1 = and_parts (has_version script) (is_within 1 most_tables (length script.tables)) h2.0 in
     let v = and_parts (is_version script.version) (list_all (λ table. are_taken_kinds (takes_later_kinds script.version) table.schema) script.tables) h1.0 in
+    let each = all_both (is_line_of script.tables script.sessions) (λ line. takes_command script.version line.command) (all_lines script) b.1 in
     record {
       version = v.0;
       kinds = v.1;
@@ -130,14 +132,10 @@ script_parts script valid =
       workers = joined (le-leb 0 script.workers (omega arith)) h5.1;
       turns = joined (le-leb 0 script.turns (omega arith)) h6.1;
       rounds = ltb-true 0 (length script.rounds) c.1;
-      lines = b.1;
+      lines = each.0;
+      taken = each.1;
       once = leb-true (exports_of (all_lines script)) 1 a.1;
     }
-
--- where all of a list pass each of two tests, all pass both
-pub all_and : {X : Type 0} (p q : X → Bool) (xs : List X) → list_all p xs ≡ true → list_all q xs ≡ true → list_all (λ x. p x && q x) xs ≡ true
-all_and p q [] ps qs = refl
-all_and p q (x ∷ xs) ps qs = let a = and_parts (p x) (list_all p xs) ps in let b = and_parts (q x) (list_all q xs) qs in joined (joined a.0 b.0) (all_and p q xs a.1 b.1)
 
 -- The lines of a workload that writes only bytes are fine.
 fine : (script : Script) → ScriptParts script → writes_only_bytes script ≡ true → AreFine script.tables script.sessions false (all_lines script)

@@ -20,7 +20,20 @@ has_only_bytes (Blob bytes) = list_all (λ byte. nat_lt byte 256) bytes
 abbrev pub written_row : Command → List Cell
 written_row (command.Insert table row) = row
 written_row (command.Update table row) = row
-written_row _ = []
+written_row (command.Begin checked) = []
+written_row (command.Get table key) = []
+written_row (command.Scan table) = []
+written_row (command.Range table low high) = []
+written_row (command.Total table column low high) = []
+written_row (command.Delete table key) = []
+written_row command.Commit = []
+written_row command.Abort = []
+written_row command.Observe = []
+written_row command.Prune = []
+written_row (command.Compact table) = []
+written_row (command.Seal table block) = []
+written_row (command.Gather table block) = []
+written_row (command.Export table) = []
 
 -- each cell of bytes that the script writes has bytes
 abbrev pub writes_only_bytes : Script → Bool

@@ -108,7 +108,7 @@ example_script = record {
   workers = 0;
   turns = 0;
   rounds =
-      (record { session = 1; command = command.Begin } ∷ record {
+      (record { session = 1; command = command.Begin false } ∷ record {
         session = 1;
         command = command.Insert 0 (Num (pos 1) ∷ Text (codes "x y") ∷ []);
       } ∷ [])
@@ -195,7 +195,7 @@ FirstFaultStands = map (λ extent. read_within extent two_faults)
     ≡ map (λ (told : ℕ × Cause). Err (record { line = told.0; cause = told.1 }))
     ((7, cause.Session) ∷ (6, cause.Command) ∷ [])
 
--- the first version takes these bounds, all commands, and no later kinds
+-- the first version takes these bounds, and no later kinds and commands
 abbrev pub FirstVersionIsTaken : Type 0
 FirstVersionIsTaken = extent_of 1 ≡ record {
   tables = 16;
@@ -207,8 +207,11 @@ FirstVersionIsTaken = extent_of 1 ≡ record {
   later_kinds = false;
   commands = record {
     begin = true;
+    begin_checked = false;
     get = true;
     scan = true;
+    range = false;
+    total = false;
     insert = true;
     update = true;
     delete = true;
@@ -350,7 +353,7 @@ HeadsAreRefused = AreRefused (
     ([], 1, cause.Version) ∷ (codes "store 9" ∷ [], 1, cause.Version)
     ∷ (codes "store 02" ∷ [], 1, cause.Version)
     ∷ (later_lines (codes "store 1") [], 2, cause.Kind)
-    ∷ (later_lines (codes "store 2") (codes "1 begin checked" ∷ []), 6, cause.Command)
+    ∷ (later_lines (codes "store 2") (codes "1 begin check" ∷ []), 6, cause.Command)
     ∷ (later_lines (codes "store 2") (codes "1 range f 1 2" ∷ []), 6, cause.Command)
     ∷ (later_lines (codes "store 2") (codes "1 total f d 1 2" ∷ []), 6, cause.Command)
     ∷ (later_lines (codes "store 2") (codes "1 gather dict f 0" ∷ []), 6, cause.Command)
@@ -481,7 +484,7 @@ command_lines = codes "1 begin" ∷ codes "1 get a -7" ∷ codes "1 scan a" ∷ 
 
 -- the same as commands
 abbrev pub all_commands : List Command
-all_commands = command.Begin ∷ command.Get 0 (negsuc 6) ∷ command.Scan 0 ∷ command.Insert 0
+all_commands = command.Begin false ∷ command.Get 0 (negsuc 6) ∷ command.Scan 0 ∷ command.Insert 0
     (Num (pos 1) ∷ Null ∷ []) ∷ command.Update 0 (Num (pos 1) ∷ Text (codes "y") ∷ [])
     ∷ command.Delete 0 (pos 1) ∷ command.Commit ∷ command.Abort ∷ command.Observe ∷ command.Prune
     ∷ command.Compact 0 ∷ command.Seal 0 0 ∷ command.Gather 0 1 ∷ command.Export 0 ∷ []

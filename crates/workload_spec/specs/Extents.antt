@@ -1,6 +1,6 @@
 -- How much of the workload format is taken: what each version takes, and which workloads run within
 -- an extent.
-use Rattle.std.specs.Prelude.{◌≡◌, ℕ, Bool, true, ◌&&◌, ◌||◌, nat_le, List, length}
+use Rattle.std.specs.Prelude.{◌≡◌, ℕ, Bool, true, ◌&&◌, ◌||◌, not, nat_le, List, length}
 use Rattle.std.specs.List.{list_all}
 use Rattle.cell_model.specs.Schemas.{most_columns}
 use Rattle.cell_model.specs.declared.column.Column.{Column}
@@ -11,22 +11,25 @@ use Rattle.workload_spec.specs.declared.extent.Extent.{Extent}
 use Rattle.workload_spec.specs.declared.script.Script.{Script}
 use Rattle.workload_spec.specs.Valid.{is_within, most_tables, most_sessions, most_workers}
 use Rattle.workload_spec.specs.Valid.{most_turns, all_lines, takes_later_kinds, are_taken_kinds}
+use Rattle.workload_spec.specs.Valid.{takes_checked, takes_ranges, takes_totals}
 
--- How much each version takes: the same tables, sessions, workers and commands, and from the second
--- on the later kinds.
-abbrev pub extent_of : ℕ → Extent
-extent_of version = record {
+-- The whole format.
+abbrev pub whole : Extent
+whole = record {
   tables = most_tables;
   columns = most_columns;
   sessions = most_sessions;
   workers = most_workers;
   turns = most_turns;
   parts_rounds = true;
-  later_kinds = takes_later_kinds version;
+  later_kinds = true;
   commands = record {
     begin = true;
+    begin_checked = true;
     get = true;
     scan = true;
+    range = true;
+    total = true;
     insert = true;
     update = true;
     delete = true;
@@ -41,15 +44,25 @@ extent_of version = record {
   };
 }
 
--- the whole format, which the second version takes
-abbrev pub whole : Extent
-whole = extent_of 2
+-- How much each version takes: all of it, but of kinds and commands that came later those that it
+-- has.
+abbrev pub extent_of : ℕ → Extent
+extent_of version = record whole {
+  later_kinds = takes_later_kinds version;
+  commands = record whole.commands {
+    begin_checked = takes_checked version;
+    range = takes_ranges version;
+    total = takes_totals version;
+  };
+}
 
 -- the command is one of those taken
 abbrev pub is_taken : Commands → Command → Bool
-is_taken taken command.Begin = taken.begin
+is_taken taken (command.Begin checked) = taken.begin && (not checked || taken.begin_checked)
 is_taken taken (command.Get table key) = taken.get
 is_taken taken (command.Scan table) = taken.scan
+is_taken taken (command.Range table low high) = taken.range
+is_taken taken (command.Total table column low high) = taken.total
 is_taken taken (command.Insert table row) = taken.insert
 is_taken taken (command.Update table row) = taken.update
 is_taken taken (command.Delete table key) = taken.delete

@@ -15,8 +15,9 @@ use Rattle.cell_model.specs.declared.kind.Kind.{Kind}
 use Rattle.cell_model.specs.declared.kind.Kind.TheVariants as kind
 use Rattle.cell_model.specs.declared.column.Column.{Column}
 use Rattle.cell_model.specs.declared.table.TableDecl.{TableDecl}
-use Rattle.cell_model.specs.Kinds.{kinds}
+use Rattle.cell_model.specs.Kinds.{kinds, values_of}
 use Rattle.cell_model.specs.Schemas.{most_slots_of, place_of_name}
+use Rattle.cell_model.specs.Values.{is_integer_of}
 use Rattle.workload_spec.specs.declared.command.Command.{Command}
 use Rattle.workload_spec.specs.declared.command.Command.TheVariants as command
 use Rattle.workload_spec.specs.declared.script.Cause.{Cause}
@@ -30,7 +31,7 @@ use Rattle.workload_spec.specs.Reading.{onto_first, parts, words_of, natural_of,
 use Rattle.workload_spec.specs.Reading.{integer_of, cell_of}
 use Rattle.workload_spec.specs.ScriptText.{kind_text}
 use Rattle.workload_spec.specs.Valid.{most_blocks, least_slots, is_name, is_declared, is_key_number}
-use Rattle.workload_spec.specs.Valid.{is_block_of, is_export, is_taken_kind}
+use Rattle.workload_spec.specs.Valid.{is_block_of, is_export, is_taken_kind, are_numbers}
 use Rattle.workload_spec.specs.Words.{line_feed, spaced, lines_text}
 
 -- what is read, and then what is read with it; the first failure stands
@@ -163,17 +164,21 @@ table_of extent tables words = do
 
 -- Lines of a round.
 
--- what the words after a command's first are, and the command that they make
+-- What the words after a command's first are, and the command that they make. A begin is told
+-- whether its word `checked` is taken.
 pub data Form : Type 0 where
   Alone : Command → Form
   OfTable : (ℕ → Command) → Form
   OfKey : (ℕ → ℤ → Command) → Form
   OfRow : (ℕ → List Cell → Command) → Form
   OfBlock : (ℕ → ℕ → Command) → Form
+  OfBegin : Bool → Form
+  OfRange : Form
+  OfTotal : Form
 
 -- each command's first word, its form, and whether it is taken
 abbrev pub forms : Commands → List (List ℕ × Form × Bool)
-forms taken = (codes "begin", Alone command.Begin, taken.begin)
+forms taken = (codes "begin", OfBegin taken.begin_checked, taken.begin)
     ∷ (codes "get", OfKey command.Get, taken.get) ∷ (codes "scan", OfTable command.Scan, taken.scan)
     ∷ (codes "insert", OfRow command.Insert, taken.insert)
     ∷ (codes "update", OfRow command.Update, taken.update)
@@ -185,7 +190,8 @@ forms taken = (codes "begin", Alone command.Begin, taken.begin)
     ∷ (codes "compact", OfTable command.Compact, taken.compact)
     ∷ (codes "seal", OfBlock command.Seal, taken.seal)
     ∷ (codes "gather", OfBlock command.Gather, taken.gather)
-    ∷ (codes "export", OfTable command.Export, taken.export) ∷ []
+    ∷ (codes "export", OfTable command.Export, taken.export)
+    ∷ (codes "range", OfRange, taken.range) ∷ (codes "total", OfTotal, taken.total) ∷ []
 
 -- the form of the command whose first word this is, where it is taken
 abbrev pub form_of : Extent → List ℕ → Option Form
@@ -217,8 +223,24 @@ cells_of (column ∷ columns) (word ∷ words) = do
   cells ← cells_of columns words
   Ok (cell ∷ cells)
 
--- A command of this form with these words: first their number, then the table, the key, the cells
--- and the block. The number of cells is judged where the table is declared.
+-- the place of the column of this name, where it has numbers, and its kind
+abbrev pub numbers_named : List Column → List ℕ → Result (ℕ × Kind) Cause
+numbers_named columns name = do
+  place ← or_cause cause.Column (place_of_name name columns)
+  column ← or_cause cause.Column (slice_get columns place)
+  numbers ← rule cause.Column (are_numbers (values_of column.kind))
+  Ok (place, column.kind)
+
+-- the number of a kind that the word is
+abbrev pub number_in : Kind → List ℕ → Result ℤ Cause
+number_in kind word = do
+  value ← or_cause cause.Number (integer_of word)
+  fits ← rule cause.Number (is_integer_of kind value)
+  Ok value
+
+-- A command of this form with these words: first their number, then the table, the column, the key
+-- or the bounds, the cells and the block. The number of cells is judged where the table is
+-- declared.
 abbrev pub formed : List TableDecl → Form → List (List ℕ) → Result Command Cause
 formed tables (Alone command) words = do
   end ← no_word cause.Command words
@@ -251,6 +273,31 @@ formed tables (OfBlock command) words = do
   block ← or_cause cause.Block (natural_of block_word.0)
   there ← rule cause.Block (is_block_of tables table block)
   Ok (command table block)
+formed tables (OfBegin takes_checked) [] = Ok (command.Begin false)
+formed tables (OfBegin takes_checked) (how ∷ words) = do
+  checked ← rule cause.Command (takes_checked && bytes_eq how (codes "checked"))
+  end ← no_word cause.Command words
+  Ok (command.Begin true)
+formed tables OfRange words = do
+  name ← word cause.Command words
+  low_word ← word cause.Command name.1
+  high_word ← word cause.Command low_word.1
+  end ← no_word cause.Command high_word.1
+  table ← table_named tables name.0
+  low ← key_in low_word.0
+  high ← key_in high_word.0
+  Ok (command.Range table low high)
+formed tables OfTotal words = do
+  name ← word cause.Command words
+  column_word ← word cause.Command name.1
+  low_word ← word cause.Command column_word.1
+  high_word ← word cause.Command low_word.1
+  end ← no_word cause.Command high_word.1
+  table ← table_named tables name.0
+  column ← numbers_named (schema_at tables table) column_word.0
+  low ← number_in column.1 low_word.0
+  high ← number_in column.1 high_word.0
+  Ok (command.Total table column.0 low high)
 
 -- A line of a round: a session of these many, and a command; an export only where none was before.
 abbrev pub line_of : Extent → List TableDecl → ℕ → Bool → List (List ℕ) → Result Line Cause
@@ -290,6 +337,7 @@ cause_word cause.Unknown = codes "unknown"
 cause_word cause.Number = codes "number"
 cause_word cause.Cell = codes "cell"
 cause_word cause.Block = codes "block"
+cause_word cause.Column = codes "column"
 cause_word cause.Export = codes "export"
 cause_word cause.Line = codes "line"
 cause_word cause.Parting = codes "parting"

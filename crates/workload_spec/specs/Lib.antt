@@ -6,3 +6,4 @@ pub mod Extents
 pub mod Reading
 pub mod Grammar
 pub mod Examples
+pub mod CheckedExamples

@@ -10,6 +10,8 @@ use Rattle.workload_spec.specs.declared.reply.Who.TheVariants.{Session, Worker}
 use Rattle.workload_spec.specs.declared.reply.Said.{Said}
 use Rattle.workload_spec.specs.declared.reply.Said.TheVariants as said
 use Rattle.workload_spec.specs.declared.reply.SealCause.{SealCause}
+use Rattle.workload_spec.specs.declared.reply.StaleRead.{StaleRead}
+use Rattle.workload_spec.specs.declared.reply.StaleRead.TheVariants as stale
 use Rattle.workload_spec.specs.declared.reply.SealCause.TheVariants.{Phase, Head, Empty, Gaps}
 use Rattle.workload_spec.specs.declared.reply.SealCause.TheVariants.{Versions, Hot, Last}
 use Rattle.workload_spec.specs.Words.{cell_words, spaced, lines_text}
@@ -25,6 +27,13 @@ cause_text Versions = codes "versions"
 cause_text Hot = codes "hot"
 cause_text Last = codes "last"
 
+-- the words of a read that a later commit wrote: a key's table and key, or what else it is first
+abbrev pub stale_words : List TableDecl → StaleRead → List (List ℕ)
+stale_words tables (stale.Key table key) = name_of_table tables table ∷ signed_decimal key ∷ []
+stale_words tables (stale.Table table) = codes "table" ∷ name_of_table tables table ∷ []
+stale_words tables (stale.Range table low high) = codes "range" ∷ name_of_table tables table
+    ∷ signed_decimal low ∷ signed_decimal high ∷ []
+
 -- The words of a reply; those of a scan are its first line's.
 abbrev pub said_words : List TableDecl → Said → List (List ℕ)
 said_words tables (said.At number) = codes "at" ∷ decimal number ∷ []
@@ -33,6 +42,8 @@ said_words tables said.NoTransaction = codes "no" ∷ codes "transaction" ∷ []
 said_words tables (said.Found row) = codes "row" ∷ cell_words row
 said_words tables said.Absent = codes "none" ∷ []
 said_words tables (said.Scanned rows) = codes "rows" ∷ decimal (length rows) ∷ []
+said_words tables (said.Totalled count sum) = codes "total" ∷ decimal count ∷ signed_decimal sum
+    ∷ []
 said_words tables said.Accepted = codes "ok" ∷ []
 said_words tables (said.ConflictSession session) = codes "conflict" ∷ codes "session" ∷ decimal
     session ∷ []
@@ -45,6 +56,8 @@ said_words tables (said.Freezing table block stamp) = codes "freezing" ∷ name_
     ∷ decimal block ∷ decimal stamp ∷ []
 said_words tables (said.Committed None) = codes "committed" ∷ codes "-" ∷ []
 said_words tables (said.Committed (Some number)) = codes "committed" ∷ decimal number ∷ []
+said_words tables (said.Stale read number) = codes "stale" ∷ (stale_words tables read
+    ++ (codes "#" ++ decimal number) ∷ [])
 said_words tables said.Aborted = codes "aborted" ∷ []
 said_words tables (said.Cooling count) = codes "cooling" ∷ decimal count ∷ []
 said_words tables (said.Pruned count) = codes "pruned" ∷ decimal count ∷ []
@@ -73,6 +86,7 @@ lines_behind said.InTransaction = []
 lines_behind said.NoTransaction = []
 lines_behind (said.Found row) = []
 lines_behind said.Absent = []
+lines_behind (said.Totalled count sum) = []
 lines_behind said.Accepted = []
 lines_behind (said.ConflictSession session) = []
 lines_behind (said.ConflictCommit number) = []
@@ -81,6 +95,7 @@ lines_behind said.Missing = []
 lines_behind said.Full = []
 lines_behind (said.Freezing table block stamp) = []
 lines_behind (said.Committed number) = []
+lines_behind (said.Stale read number) = []
 lines_behind said.Aborted = []
 lines_behind (said.Cooling count) = []
 lines_behind (said.Pruned count) = []

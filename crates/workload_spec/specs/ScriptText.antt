@@ -1,5 +1,6 @@
 -- The text of a workload.
-use Rattle.std.specs.Prelude.{ℕ, List, [], ◌∷◌, ◌++◌, map, codes, decimal, if◌then◌else◌, slice_get}
+use Rattle.std.specs.Prelude.{ℕ, true, false, List, [], ◌∷◌, ◌++◌, map, codes, decimal}
+use Rattle.std.specs.Prelude.{if◌then◌else◌, slice_get}
 use Rattle.std.specs.Fmt.{signed_decimal}
 use Rattle.std.specs.Option.{option_map_or}
 use Rattle.cell_model.specs.declared.kind.Kind.{Kind}
@@ -44,12 +45,24 @@ table_text table = spaced (codes "table" ∷ table.name ∷ (map column_text tab
 abbrev pub name_of_table : List TableDecl → ℕ → List ℕ
 name_of_table tables place = option_map_or (λ table. table.name) (slice_get tables place) []
 
+-- the name of a table's column, by the places of both
+abbrev pub name_of_column : List TableDecl → ℕ → ℕ → List ℕ
+name_of_column tables place column = option_map_or
+    (λ table. option_map_or (λ its. its.name) (slice_get table.schema column) [])
+    (slice_get tables place) []
+
 -- the words of a command; a row's first cell is its key
 abbrev pub command_words : List TableDecl → Command → List (List ℕ)
-command_words tables command.Begin = codes "begin" ∷ []
+command_words tables (command.Begin false) = codes "begin" ∷ []
+command_words tables (command.Begin true) = codes "begin" ∷ codes "checked" ∷ []
 command_words tables (command.Get table key) = codes "get" ∷ name_of_table tables table
     ∷ signed_decimal key ∷ []
 command_words tables (command.Scan table) = codes "scan" ∷ name_of_table tables table ∷ []
+command_words tables (command.Range table low high) = codes "range" ∷ name_of_table tables table
+    ∷ signed_decimal low ∷ signed_decimal high ∷ []
+command_words tables (command.Total table column low high) = codes "total"
+    ∷ name_of_table tables table ∷ name_of_column tables table column ∷ signed_decimal low
+    ∷ signed_decimal high ∷ []
 command_words tables (command.Insert table row) = codes "insert" ∷ name_of_table tables table
     ∷ cell_words row
 command_words tables (command.Update table row) = codes "update" ∷ name_of_table tables table

@@ -8,6 +8,9 @@ use Rattle.cell_model.specs.declared.cell.Cell.{Cell}
 use Rattle.cell_model.specs.declared.column.Column.{Column}
 use Rattle.cell_model.specs.declared.table.TableDecl.{TableDecl}
 use Rattle.cell_model.specs.Kinds.{has_width, values_of}
+use Rattle.cell_model.specs.declared.values.Values.{Values}
+use Rattle.cell_model.specs.declared.values.Values.TheVariants.{Signed, Unsigned, Truths}
+use Rattle.cell_model.specs.declared.values.Values.TheVariants.{Texts, Blobs, Strips}
 use Rattle.cell_model.specs.Rows.{fits}
 use Rattle.cell_model.specs.Values.{is_integer_of}
 use Rattle.cell_model.specs.declared.kind.Kind.{Kind}
@@ -140,12 +143,36 @@ is_block_of tables place block = option_map_or (λ table. nat_lt block table.blo
 abbrev pub is_key_number : ℤ → Bool
 is_key_number key = is_integer_of kind.I64 key
 
--- The command names tables and blocks that there are, keys that are 64-bit numbers, and rows that
--- fit.
+-- the values are numbers
+abbrev pub are_numbers : Values → Bool
+are_numbers (Signed width) = true
+are_numbers (Unsigned width) = true
+are_numbers Truths = false
+are_numbers (Texts width) = false
+are_numbers (Blobs width) = false
+are_numbers (Strips bytes) = false
+
+-- the column has numbers, and these two are of its kind
+abbrev pub are_bounds_in : Column → ℤ → ℤ → Bool
+are_bounds_in column low high = are_numbers (values_of column.kind)
+    && is_integer_of column.kind low && is_integer_of column.kind high
+
+-- the table at this place has this column of numbers, counted from 0, and these two are of its kind
+abbrev pub is_total : List TableDecl → ℕ → ℕ → ℤ → ℤ → Bool
+is_total tables place column low high = option_map_or
+    (λ table. option_map_or (λ its. are_bounds_in its low high) (slice_get table.schema column)
+    false)
+    (slice_get tables place) false
+
+-- The command names tables, blocks and columns of numbers that there are, keys that are 64-bit
+-- numbers, bounds of a column's kind, and rows that fit.
 abbrev pub is_command : List TableDecl → Command → Bool
-is_command tables command.Begin = true
+is_command tables (command.Begin checked) = true
 is_command tables (command.Get table key) = is_table_place tables table && is_key_number key
 is_command tables (command.Scan table) = is_table_place tables table
+is_command tables (command.Range table low high) = is_table_place tables table
+    && is_key_number low && is_key_number high
+is_command tables (command.Total table column low high) = is_total tables table column low high
 is_command tables (command.Insert table row) = fits_table tables table row
 is_command tables (command.Update table row) = fits_table tables table row
 is_command tables (command.Delete table key) = is_table_place tables table && is_key_number key
@@ -161,12 +188,56 @@ is_command tables (command.Export table) = is_table_place tables table
 -- the command exports a table
 abbrev pub is_export : Command → Bool
 is_export (command.Export table) = true
-is_export _ = false
+is_export (command.Begin checked) = false
+is_export (command.Get table key) = false
+is_export (command.Scan table) = false
+is_export (command.Range table low high) = false
+is_export (command.Total table column low high) = false
+is_export (command.Insert table row) = false
+is_export (command.Update table row) = false
+is_export (command.Delete table key) = false
+is_export command.Commit = false
+is_export command.Abort = false
+is_export command.Observe = false
+is_export command.Prune = false
+is_export (command.Compact table) = false
+is_export (command.Seal table block) = false
+is_export (command.Gather table block) = false
 
--- a line of a round: one of the sessions, and a command of these tables
+-- Whether a version takes checked transactions, ranges and totals, which came behind the first: the
+-- second takes checked transactions, and none the others.
+abbrev pub takes_checked : ℕ → Bool
+takes_checked version = nat_le 2 version
+
+abbrev pub takes_ranges : ℕ → Bool
+takes_ranges version = false
+
+abbrev pub takes_totals : ℕ → Bool
+takes_totals version = false
+
+-- the version takes the command
+abbrev pub takes_command : ℕ → Command → Bool
+takes_command version (command.Begin checked) = not checked || takes_checked version
+takes_command version (command.Get table key) = true
+takes_command version (command.Scan table) = true
+takes_command version (command.Range table low high) = takes_ranges version
+takes_command version (command.Total table column low high) = takes_totals version
+takes_command version (command.Insert table row) = true
+takes_command version (command.Update table row) = true
+takes_command version (command.Delete table key) = true
+takes_command version command.Commit = true
+takes_command version command.Abort = true
+takes_command version command.Observe = true
+takes_command version command.Prune = true
+takes_command version (command.Compact table) = true
+takes_command version (command.Seal table block) = true
+takes_command version (command.Gather table block) = true
+takes_command version (command.Export table) = true
+
+-- a line of a round: one of the sessions, and a command of these tables that the version takes
 abbrev pub is_line : Script → Line → Bool
 is_line script line = is_within 1 script.sessions line.session
-    && is_command script.tables line.command
+    && is_command script.tables line.command && takes_command script.version line.command
 
 -- all lines of a script, round after round
 abbrev pub all_lines : Script → List Line

@@ -6,18 +6,50 @@ use cell_model::Row;
 /// their table.
 #[derive(Debug, Drop)]
 pub enum Command {
-    /// Opens a transaction.
-    Begin,
+    /// Opens a transaction. A checked one commits its writes only where nothing that it read was
+    /// written since.
+    Begin {
+        checked: bool,
+    },
     /// Asks for the row of a key.
-    Get { table: u32, key: i64 },
+    Get {
+        table: u32,
+        key: i64,
+    },
     /// Asks for all rows of a table, in the order of their keys.
-    Scan { table: u32 },
+    Scan {
+        table: u32,
+    },
+    /// Asks for the rows of a table whose keys lie between two, both counted, in the order of their
+    /// keys.
+    Range {
+        table: u32,
+        low: i64,
+        high: i64,
+    },
+    /// Asks how many numbers of a column, counted from 0, lie between two, both counted, and for
+    /// their sum.
+    Total {
+        table: u32,
+        column: u32,
+        low: i128,
+        high: i128,
+    },
     /// Adds a row whose key has none.
-    Insert { table: u32, row: Row },
+    Insert {
+        table: u32,
+        row: Row,
+    },
     /// Changes the row of a key that has one.
-    Update { table: u32, row: Row },
+    Update {
+        table: u32,
+        row: Row,
+    },
     /// Removes the row of a key.
-    Delete { table: u32, key: i64 },
+    Delete {
+        table: u32,
+        key: i64,
+    },
     /// Ends the transaction, whose writes become visible to later ones.
     Commit,
     /// Ends the transaction and drops its writes.
@@ -27,11 +59,21 @@ pub enum Command {
     /// Drops the versions that no snapshot needs.
     Prune,
     /// Moves rows of cold blocks into gaps.
-    Compact { table: u32 },
+    Compact {
+        table: u32,
+    },
     /// Closes a cold block for gathering.
-    Seal { table: u32, block: u32 },
+    Seal {
+        table: u32,
+        block: u32,
+    },
     /// Makes the Arrow image of a sealed block.
-    Gather { table: u32, block: u32 },
+    Gather {
+        table: u32,
+        block: u32,
+    },
     /// Writes the table as an Arrow stream.
-    Export { table: u32 },
+    Export {
+        table: u32,
+    },
 }

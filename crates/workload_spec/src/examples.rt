@@ -1,4 +1,7 @@
 //! Worked examples of texts and faults: each is a fact that the definitions compute.
+ghost use Rattle.workload_spec.specs.CheckedExamples.{AskedIsRead, AskedIsPrinted, AskedIsRefused};
+ghost use Rattle.workload_spec.specs.CheckedExamples.{TakenByVersion, EachIsSwitched};
+ghost use Rattle.workload_spec.specs.CheckedExamples.{CommandsAreJudged, AnswersArePrinted};
 ghost use Rattle.workload_spec.specs.Examples.{HardTextIsSpelled, HardSpellingIsRead};
 ghost use Rattle.workload_spec.specs.Examples.{NumbersAreRead, LeastKeyIsSpelled, NoNumbers};
 ghost use Rattle.workload_spec.specs.Examples.{NoTexts, NoNull, BlobsAreRead, TruthsAreRead};
@@ -198,4 +201,39 @@ pub fn each_reply_is_printed()
 /// Replies are printed behind their round, session or worker, and index.
 pub fn replies_are_printed_line_by_line()
     ensures { LinesArePrinted }
+{}
+
+/// A checked begin, a range and a total are read within the whole format.
+pub fn checked_begins_ranges_and_totals_are_read()
+    ensures { AskedIsRead }
+{}
+
+/// They are printed as they are read.
+pub fn checked_begins_ranges_and_totals_are_printed()
+    ensures { AskedIsPrinted }
+{}
+
+/// Their lines are refused by their first fault.
+pub fn checked_begins_ranges_and_totals_are_refused_by_their_first_fault()
+    ensures { AskedIsRefused }
+{}
+
+/// The second version takes checked begins, and neither takes ranges or totals.
+pub fn checked_begins_are_of_the_second_version()
+    ensures { TakenByVersion }
+{}
+
+/// An extent takes each of them or not.
+pub fn each_of_them_is_taken_or_not()
+    ensures { EachIsSwitched }
+{}
+
+/// A range and a total are of a table, of a column with numbers and within its kind.
+pub fn ranges_and_totals_are_of_a_table()
+    ensures { CommandsAreJudged }
+{}
+
+/// A stale commit and a total are printed.
+pub fn stale_commits_and_totals_are_printed()
+    ensures { AnswersArePrinted }
 {}

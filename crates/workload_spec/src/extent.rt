@@ -26,8 +26,12 @@ pub struct Extent {
 #[derive(Clone, Copy, Debug)]
 pub struct Commands {
     pub begin: bool,
+    /// Whether the word `checked` is taken behind `begin`.
+    pub begin_checked: bool,
     pub get: bool,
     pub scan: bool,
+    pub range: bool,
+    pub total: bool,
     pub insert: bool,
     pub update: bool,
     pub delete: bool,
@@ -56,8 +60,11 @@ impl Extent {
             later_kinds: version >= 2,
             commands: Commands {
                 begin: true,
+                begin_checked: version >= 2,
                 get: true,
                 scan: true,
+                range: false,
+                total: false,
                 insert: true,
                 update: true,
                 delete: true,

@@ -10,5 +10,5 @@ pub mod script;
 
 pub use command::Command;
 pub use extent::{Commands, Extent};
-pub use reply::{ReplyLine, Said, SealCause, Who};
+pub use reply::{ReplyLine, Said, SealCause, StaleRead, Who};
 pub use script::{Cause, Line, Round, Rounds, Script, Tables};

@@ -32,8 +32,13 @@ pub enum Said {
     Found(Row),
     /// The key has no row.
     Absent,
-    /// The rows of a table, in the order of their keys.
+    /// The rows of a table, or of a range of its keys, in the order of their keys.
     Scanned(Rows),
+    /// So many numbers of a column, and their sum.
+    Totalled {
+        count: u64,
+        sum: i128,
+    },
     /// The write was accepted.
     Accepted,
     /// Another open transaction, this session's, wrote the key.
@@ -54,6 +59,12 @@ pub enum Said {
     },
     /// The transaction committed, with this number where it wrote something.
     Committed(Option<u64>),
+    /// The commit is refused, and the transaction stays open: a read of it was written since, last
+    /// by the commit with this number.
+    Stale {
+        read: StaleRead,
+        number: u64,
+    },
     Aborted,
     /// So many blocks became cooling.
     Cooling(u64),
@@ -89,6 +100,15 @@ pub enum Said {
     Dirty(i64),
     /// Memory was refused.
     Memory,
+}
+
+/// What a checked transaction read and a later commit wrote: a key, a table, or a range of keys,
+/// both ends counted.
+#[derive(Clone, Copy, Debug, PartialEq, Eq)]
+pub enum StaleRead {
+    Key { table: u32, key: i64 },
+    Table { table: u32 },
+    Range { table: u32, low: i64, high: i64 },
 }
 
 /// Why a block is not sealed, the first that holds.

@@ -227,6 +227,8 @@ pub enum Cause {
     Cell,
     /// A command's block is none of its table.
     Block,
+    /// A total's column is none of its table, or has no numbers.
+    Column,
     /// A second export.
     Export,
     /// The last line does not end.

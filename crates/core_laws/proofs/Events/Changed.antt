@@ -4,6 +4,7 @@ use Rattle.std.specs.List.{flat_map}
 use Rattle.undo_chain.specs.Conflict.{other_writer, numbers_above, largest}
 use Rattle.core_laws.proofs.Events.Slots.{write_here, write_else, body_of}
 use Rattle.core_laws.proofs.Events.Still.{all_stay}
+use Rattle.core_laws.proofs.Events.Plain.{plain}
 use Rattle.core_laws.specs.Events.Laws.{IsTold, Serves, outcome_of_fault}
 use Rattle.event_spec.specs.declared.reply.WriteFault.{WriteFault}
 use Rattle.event_spec.specs.declared.reply.WriteFault.TheVariants.{ConflictSession, ConflictCommit, Missing, Freezing}
@@ -73,7 +74,7 @@ module _ (sh : Shape) (s : Parts) (me : OwnKey) (t : ℕ) (key : ℤ)
 
   -- The machine may answer what the event replies, and the parts then follow it.
   abbrev Goal : Type 0
-  Goal = (m' : IsolationMachine) × IsTold m command (reply_to sh s e) m' × FollowsMachine sh (effect sh s e) m'
+  Goal = (m' : IsolationMachine) × IsTold m None command (reply_to sh s e) m' × FollowsMachine sh (effect sh s e) m'
 
   -- The machine's step is a write at the key's place, unless it refuses.
   step_is : step m command ≡ write m the (place_at t key) value (refusal_of_change m the (place_at t key))
@@ -93,10 +94,10 @@ module _ (sh : Shape) (s : Parts) (me : OwnKey) (t : ℕ) (key : ℤ)
       ∙ sessions.conflict_is (slot_at sh s) (places_at sh s) (desk_at sh s) m f.follows me.session me.snapshot has_open t key
 
   -- A change that is refused as the machine allows leaves the parts, and they follow it.
-  refused : (fault : WriteFault) → change_judged sh s me t key ≡ Err fault → Allows m command (outcome_of_fault fault) m → Goal
+  refused : (fault : WriteFault) → change_judged sh s me t key ≡ Err fault → Allows m None command (outcome_of_fault fault) m → Goal
   refused fault is allowed = (
     m,
-    subst (λ o. IsTold m command o m) (sym (replies ∙ ap reply_to_write is)) allowed,
+    subst (λ o. IsTold m None command o m) (sym (replies ∙ ap reply_to_write is)) allowed,
     subst (λ s'. FollowsMachine sh s' m) (sym (ap (λ c. each_changed c (names sh) s) (changes ∙ ap (after_change sh s me t choice) is) ∙ all_stay (names sh) s)) f,
   )
 
@@ -171,8 +172,8 @@ module _ (sh : Shape) (s : Parts) (me : OwnKey) (t : ℕ) (key : ℤ)
     accepted : change_judged sh s me t key ≡ Ok p → Goal
     accepted fine = (
       with_own me.session (place_at t key) value m,
-      subst (λ o. IsTold m command o (with_own me.session (place_at t key) value m))
-          (sym (replies ∙ ap reply_to_write fine)) (machine_accepts open'),
+      subst (λ o. IsTold m None command o (with_own me.session (place_at t key) value m))
+          (sym (replies ∙ ap reply_to_write fine)) (plain m command ∙ machine_accepts open'),
       subst (λ c. FollowsMachine sh (each_changed c (names sh) s) (with_own me.session (place_at t key) value m)) (sym (same_changes fine)) followed,
     )
 
@@ -222,15 +223,15 @@ module _ (sh : Shape) (s : Parts) (me : OwnKey) (t : ℕ) (key : ℤ)
   cases : (n : Newer) (row' : Option Row) → met ≡ n → found sh s me t key ≡ row' → Goal
   cases (newer.Session w) row' nn fr =
       refused (ConflictSession w) (ap (λ x. told x (found sh s me t key) (current_place (slot_at sh s t) (places_at sh s t key))) nn)
-      (machine_refuses (answer.ConflictSession w) (refusal_by (newer.Session w) nn))
+      (plain m command ∙ machine_refuses (answer.ConflictSession w) (refusal_by (newer.Session w) nn))
   cases (newer.Number k) row' nn fr =
       refused (ConflictCommit k) (ap (λ x. told x (found sh s me t key) (current_place (slot_at sh s t) (places_at sh s t key))) nn)
-      (machine_refuses (answer.ConflictCommit k) (refusal_by (newer.Number k) nn))
+      (plain m command ∙ machine_refuses (answer.ConflictCommit k) (refusal_by (newer.Number k) nn))
   cases newer.Nothing None nn fr =
       refused Missing
       (ap (λ x. told x (found sh s me t key) (current_place (slot_at sh s t) (places_at sh s t key))) nn
       ∙ ap (λ o. told newer.Nothing o (current_place (slot_at sh s t) (places_at sh s t key))) fr)
-      (machine_refuses answer.Missing (refusal_by newer.Nothing nn ∙ ap (λ o. cond (is_none o) (Some answer.Missing) None) fr))
+      (plain m command ∙ machine_refuses answer.Missing (refusal_by newer.Nothing nn ∙ ap (λ o. cond (is_none o) (Some answer.Missing) None) fr))
   cases newer.Nothing (Some row) nn fr = found_one row nn fr
 
   -- A change of a key's row is answered as the machine may, and the parts follow.

@@ -91,13 +91,13 @@ module _ (sh : Shape) (s : Parts) (me : OwnKey) (t : ℕ) (row : Row) (inside : 
 
   -- The machine may answer what the event replies, and the parts then follow it.
   abbrev Goal : Type 0
-  Goal = (m' : IsolationMachine) × IsTold m command (reply_to sh s e) m' × FollowsMachine sh (effect sh s e) m'
+  Goal = (m' : IsolationMachine) × IsTold m None command (reply_to sh s e) m' × FollowsMachine sh (effect sh s e) m'
 
   -- a fault changes nothing and is the reply
-  refused : (fault : WriteFault) → insert_judged sh s me t key ≡ Err fault → Allows m command (outcome_of_fault fault) m → Goal
+  refused : (fault : WriteFault) → insert_judged sh s me t key ≡ Err fault → Allows m None command (outcome_of_fault fault) m → Goal
   refused fault is allowed = (
     m,
-    subst (λ o. IsTold m command (reply_to_write o) m) (sym is) allowed,
+    subst (λ o. IsTold m None command (reply_to_write o) m) (sym is) allowed,
     subst (λ s'. FollowsMachine sh s' m) (sym (ap (λ o. each_changed (after_insert sh s me t row o) (names sh) s) is ∙ all_stay (names sh) s)) f,
   )
 
@@ -204,7 +204,7 @@ module _ (sh : Shape) (s : Parts) (me : OwnKey) (t : ℕ) (row : Row) (inside : 
     pub accepted : Goal
     accepted = (
       with_own me.session (place_of t row) (Some row) m,
-      subst (λ o. IsTold m command o (with_own me.session (place_of t row) (Some row) m))
+      subst (λ o. IsTold m None command o (with_own me.session (place_of t row) (Some row) m))
           (sym (ap reply_to_write fine))
           (machine_accepts refusal_none),
       subst (λ c. FollowsMachine sh (each_changed c (names sh) s) (with_own me.session (place_of t row) (Some row) m)) (sym same_changes) followed,

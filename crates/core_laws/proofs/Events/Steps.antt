@@ -32,7 +32,7 @@ use Rattle.event_spec.specs.declared.event.Event.TheVariants as event
 use Rattle.event_spec.specs.declared.event.MovePair.{MovePair}
 use Rattle.event_spec.specs.Effects.{CoreEvent, after_move, at_both, effect, has_key, held_pairs, holds, may_move, moved_row, ticked}
 use Rattle.event_spec.specs.Follows.{IsLive}
-use Rattle.event_spec.specs.Lawful.{Among, HasTable, HasPlace, IsLawful, transaction, writes_of}
+use Rattle.event_spec.specs.Lawful.{Among, HasTable, HasPlace, IsLawful, reads_handed, transaction, writes_of}
 use Rattle.event_spec.specs.Parts.{Parts, Shape, nothing, each_changed, names, body_from, is_head, body_at, slot_at, places_at, desk_at}
 use Rattle.event_spec.specs.Replies.{reply_to}
 use Rattle.event_spec.specs.Replay.{columns_in}
@@ -51,7 +51,7 @@ use Rattle.txn_desk.proofs.LeastStart.{BeganFrom, least_below}
 
 -- The machine may step as the event replies, and the core after it follows that.
 abbrev Goal : Shape → Parts → CoreEvent → IsolationMachine → Type 0
-Goal sh s e m = (next : IsolationMachine) × IsStep (command_in e) m (reply_to sh s e) next × FollowsMachine sh (effect sh s e) next
+Goal sh s e m = (next : IsolationMachine) × IsStep (command_in e) (reads_handed e) m (reply_to sh s e) next × FollowsMachine sh (effect sh s e) next
 
 -- ---- a stamp that the oldest snapshot is not below
 
@@ -252,7 +252,7 @@ module _ (sh : Shape) (s : Parts) (shape : IsShape sh) (ok : Sound sh s) (m : Is
       m f
   event_step (event.Delete own t key) lawful = delete_serves sh s own t key (key_open sh s ok own t key lawful.0) (key_slot sh s ok own t key lawful.0) m f
   event_step (event.Read own t b) lawful = as_before (event.Read own t b) (stays sh s m f)
-  event_step (event.Commit own) lawful = commit_served sh s own (all_open sh s ok own lawful.0) (all_slots sh s ok own lawful.0) m f
+  event_step (event.Commit own reads) lawful = commit_served sh s own (all_open sh s ok own lawful.0) (all_slots sh s ok own lawful.0) m f reads shape lawful.1.1
   event_step (event.Abort own) lawful = abort_serves sh s own (all_open sh s ok own lawful.0) m f
   event_step event.Oldest lawful = as_before event.Oldest (stays sh s m f)
   event_step (event.Observe t b) lawful = as_before (event.Observe t b) (slots_kept sh s t b (observed (is_head sh s t b)) (λ body. refl) m f)

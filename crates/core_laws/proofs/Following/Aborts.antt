@@ -81,6 +81,7 @@ module _ (slot : ℕ → ℕ → Slot) (places left : ℕ → ℤ → List ℕ) 
     one_each = one-without q m.open_transactions f.desked.one_each;
     own_order = λ r tr is. f.desked.own_order r tr (sym (ended_other r (not_own r tr is)) ∙ is);
     history_order = f.desked.history_order;
+    wrote = f.desked.wrote;
   }
     where
       idle' : (r : ℕ) → 1 ≤ r → snapshot_of (closed q desk) r ≡ None → (r ≡ q) ⊎ (r ≢ q) → transaction_of r (without q m) ≡ None

@@ -8,7 +8,8 @@ use Rattle.txn_desk.specs.Oldest.{HasPass, snapshot_of}
 use Rattle.txn_desk.specs.declared.Snapshot.{Snapshot}
 use Rattle.block_spec.specs.Slots.{Slot, Row, writer_of}
 use Rattle.event_spec.specs.Effects.{opened}
-use Rattle.event_spec.specs.Follows.{InOrder, Own, Desked, Follows}
+use Rattle.event_spec.specs.Follows.{Own, Desked, Follows}
+use Rattle.isolation_spec.specs.Order.{InOrder}
 use Rattle.event_spec.specs.Lawful.{Among}
 use Rattle.core_laws.proofs.Following.Machines.{of-append-other, of-append-new, one-append}
 use Rattle.core_laws.proofs.Following.Desks.{same_number, opened_own, opened_other, live_opened, none_not, some_is}
@@ -46,6 +47,7 @@ module _ (slot : ℕ → ℕ → Slot) (places : ℕ → ℤ → List ℕ) (desk
     one_each = one-append m.open_transactions (new_of m q) f.desked.one_each none;
     own_order = λ r tr is. order' r tr is (same_number r q);
     history_order = f.desked.history_order;
+    wrote = f.desked.wrote;
   }
     where
       first : (r : ℕ) (snapshot : Snapshot) → r ≡ q → snapshot_of (opened q desk) r ≡ Some snapshot → record { stamp = desk.newest; number = desk.commits } ≡ snapshot

@@ -1,27 +1,33 @@
 -- A commit of some writes keeps what holds between the core and the machine.
-use Rattle.std.proofs.Common.{◌≡◌, ◌≢◌, ◌⊎◌, ℕ, ◌+◌, ◌≤◌, ℤ, Bool, true, false, cond, List, [], ◌∷◌, ◌++◌, Option, None, Some, is_some, length, refl, sym, ap, ◌∙◌, arith, subst, All, map}
+use Rattle.std.proofs.Common.{◌≡◌, ◌≢◌, ◌⊎◌, ℕ, ◌+◌, ◌<◌, ◌≤◌, ℤ, Bool, true, false, cond, List, [], ◌∷◌, ◌++◌, Option, None, Some, is_some, unwrap_or, length, refl, sym, ap, ◌∙◌, arith, subst, All, map}
 use mathlib.Core.Logic.{inl, inr}
 use Rattle.std.proofs.lemmas.List.{length_push}
 use Rattle.std.proofs.lemmas.List.Elements.{All-nil, All-cons, All-head, All-tail}
 use Rattle.std.proofs.lemmas.Bool.{cases_Bool}
-use Rattle.isolation_spec.specs.Contents.{at_place, place_at, place_of, key_of, state_at, State, WriteSet, laid_over}
+use Rattle.isolation_spec.specs.Contents.{at_place, place_at, place_of, key_of, state_at, PlaceMap, State, WriteSet, laid_over}
 use Rattle.isolation_spec.specs.Machine.{IsolationMachine, Transaction, transaction_of, without, writes_place}
 use Rattle.isolation_spec.specs.declared.place.Place.{Place}
-use Rattle.txn_desk.specs.Desk.{DeskState}
+use Rattle.isolation_spec.specs.declared.read.Read.TheVariants as read
+use Rattle.isolation_spec.specs.Reads.{meets, last_meeting}
+use Rattle.txn_desk.proofs.Tables.{wrote-marked}
+use Rattle.txn_desk.specs.Desk.{DeskState, wrote_table}
 use Rattle.txn_desk.specs.Oldest.{HasPass, snapshot_of}
 use Rattle.txn_desk.specs.declared.Snapshot.{Snapshot}
 use Rattle.undo_chain.specs.declared.undo.Undo.{Undo}
 use Rattle.undo_chain.specs.Conflict.{numbers_above}
 use Rattle.undo_chain.specs.Stamped.{stamped}
-use Rattle.core_laws.proofs.Following.Machines.{last-none, last_behind, of-without, of-without-own, one-without, last-after, state-before, state-after, state-order}
+use Rattle.core_laws.proofs.Following.Machines.{last-none, last_behind, of-without, of-without-own, one-without, last-after, state-before, state-after}
+use Rattle.core_laws.proofs.Following.Met.{last-more}
+use Rattle.isolation_laws.proofs.States.{state-order}
 use Rattle.block_spec.specs.Slots.{Slot, Row, writer_of, committed, seen, is_bare}
 use Rattle.core_laws.proofs.Slots.Keys.{HasKey}
 use Rattle.event_spec.specs.SlotSound.{IsSoundSlot}
-use Rattle.event_spec.specs.Effects.{closed, numbered}
+use Rattle.event_spec.specs.Effects.{closed, numbered, writes_table}
 use Rattle.event_spec.specs.Lawful.{Among}
-use Rattle.event_spec.specs.Follows.{InOrder, Shows, Numbers, Index, Own, Desked, Follows, is_current}
+use Rattle.event_spec.specs.Follows.{Shows, Numbers, Index, Own, Desked, Follows, is_current}
+use Rattle.isolation_spec.specs.Order.{InOrder}
 use Rattle.core_laws.proofs.Slots.Ages.{older_committed}
-use Rattle.core_laws.proofs.Following.Overlays.{at-laid_over, over}
+use Rattle.isolation_laws.proofs.Overlays.{at-laid_over, over}
 use Rattle.core_laws.proofs.Slots.Endings.{committed_other, committed_writer, seen_committed, seen_after_commit, committed_keyed, seen_keyed, keyed_row}
 use Rattle.core_laws.proofs.Slots.Kept.{same_option, shown_filled, shown_current, seen_later, writer_current, numbers_of_commit, numbers_stay, number_there, numbers_settled, sound_committed, small_number}
 use Rattle.core_laws.proofs.Following.Desks.{same_number, closed_own, closed_other, live_numbered, none_not}
@@ -66,7 +72,9 @@ committed_bare q S N slot = go slot.entries
     go (e ∷ es) = refl
 
 module _ (slot : ℕ → ℕ → Slot) (places : ℕ → ℤ → List ℕ) (desk : DeskState) (m : IsolationMachine) (f : Follows slot places desk m)
-    (q : ℕ) (pass : HasPass desk q) (tr : Transaction) (mine : transaction_of q m ≡ Some tr) where
+    (q : ℕ) (pass : HasPass desk q) (tr : Transaction) (mine : transaction_of q m ≡ Some tr)
+    -- what the core has of its writes: their tables are the machine's
+    (writes : PlaceMap ℕ) (tables : (table : ℕ) → writes_table writes table ≡ meets (read.Table table) tr.own) where
   -- The stamp of the commit: the next behind the desk's newest.
   abbrev S : ℕ
   S = desk.newest + 1
@@ -81,7 +89,7 @@ module _ (slot : ℕ → ℕ → Slot) (places : ℕ → ℤ → List ℕ) (desk
 
   -- The desk with one commit more, and without the session's snapshot.
   abbrev after_desk : DeskState
-  after_desk = closed q (numbered desk)
+  after_desk = closed q (numbered writes desk)
 
   -- the machine without the transaction, and with its writes in the history
   abbrev pub after_commit : IsolationMachine
@@ -101,7 +109,7 @@ module _ (slot : ℕ → ℕ → Slot) (places : ℕ → ℤ → List ℕ) (desk
 
   -- Who has a snapshot after the commit is not the session that committed.
   not_closed : (r : ℕ) (snapshot : Snapshot) → snapshot_of after_desk r ≡ Some snapshot → r ≢ q
-  not_closed r snapshot is e = none_not (snapshot_of after_desk q) snapshot (closed_own q (numbered desk) pass) (ap (snapshot_of after_desk) (sym e) ∙ is)
+  not_closed r snapshot is e = none_not (snapshot_of after_desk q) snapshot (closed_own q (numbered writes desk) pass) (ap (snapshot_of after_desk) (sym e) ∙ is)
 
   -- The history is as long after the commit as its number says.
   count : length (m.history ++ tr.own ∷ []) ≡ N
@@ -113,19 +121,35 @@ module _ (slot : ℕ → ℕ → Slot) (places : ℕ → ℤ → List ℕ) (desk
     counted = count;
     begun = λ r snapshot some is.
         let ne = not_closed r snapshot is in
-        let old = f.desked.begun r snapshot some (sym (closed_other q r (numbered desk) pass.0 some ne) ∙ is) in (old.0, other r ne ∙ old.1, old.2, old.3);
+        let old = f.desked.begun r snapshot some (sym (closed_other q r (numbered writes desk) pass.0 some ne) ∙ is) in (old.0, other r ne ∙ old.1, old.2, old.3);
     idle = λ r some is. idle' r some is (same_number r q);
     bounds = λ r snapshot some is.
-        let old = f.desked.bounds r snapshot some (sym (closed_other q r (numbered desk) pass.0 some (not_closed r snapshot is)) ∙ is) in
+        let old = f.desked.bounds r snapshot some (sym (closed_other q r (numbered writes desk) pass.0 some (not_closed r snapshot is)) ∙ is) in
         let a = old.0 in let b = old.1 in (omega (arith, a), omega (arith, b));
     one_each = one-without q m.open_transactions f.desked.one_each;
     own_order = λ r tr' is. f.desked.own_order r tr' (sym (other r (not_own r tr' is)) ∙ is);
     history_order = push m.history f.desked.history_order;
+    wrote = λ table few. wrote-marked N (writes_table writes) desk.wrote table few ∙ wrote' table few (writes_table writes table) refl;
   }
     where
       idle' : (r : ℕ) → 1 ≤ r → snapshot_of after_desk r ≡ None → (r ≡ q) ⊎ (r ≢ q) → transaction_of r after_commit ≡ None
       idle' r some is (inl e) = ap (λ x. transaction_of x after_commit) e ∙ own_gone
-      idle' r some is (inr ne) = other r ne ∙ f.desked.idle r some (sym (closed_other q r (numbered desk) pass.0 some ne) ∙ is)
+      idle' r some is (inr ne) = other r ne ∙ f.desked.idle r some (sym (closed_other q r (numbered writes desk) pass.0 some ne) ∙ is)
+
+      -- the last writer of a table is this commit if it wrote it, and else as before
+      wrote' : (table : ℕ) → table < 16 → (b : Bool) → writes_table writes table ≡ b
+          → cond (writes_table writes table) N (wrote_table desk table) ≡ unwrap_or (last_meeting (m.history ++ tr.own ∷ []) 0 (read.Table table)) 0
+      wrote' table few b is =
+          ap (λ b. cond b N (wrote_table desk table)) is
+          ∙ by b
+          ∙ ap (λ (o : Option ℕ). unwrap_or o 0)
+          (ap (λ b. cond b (Some N) (last_meeting m.history 0 (read.Table table))) (sym is ∙ tables table)
+          ∙ ap (λ n. cond (meets (read.Table table) tr.own) (Some (n + 1)) (last_meeting m.history 0 (read.Table table))) (sym f.desked.counted)
+          ∙ sym (last-more m.history tr.own 0 (omega arith) (meets (read.Table table))))
+        where
+          by : (b : Bool) → cond b N (wrote_table desk table) ≡ unwrap_or (cond b (Some N) (last_meeting m.history 0 (read.Table table))) 0
+          by true = refl
+          by false = f.desked.wrote table few
 
       push : (ws : List WriteSet) → All InOrder ws → All InOrder (ws ++ tr.own ∷ [])
       push [] all = All-cons InOrder tr.own [] (f.desked.own_order q tr mine) (All-nil InOrder)
@@ -346,8 +370,8 @@ module _ (slot : ℕ → ℕ → Slot) (places : ℕ → ℤ → List ℕ) (desk
     slots = λ t p. sound_committed q desk.newest desk.commits (slot t p) (f.slots t p);
     index = keeps_index;
     desked = keeps_desk;
-    shows = λ stamp number live. shows' stamp number (live_numbered q desk stamp number pass live);
-    numbers = λ stamp number live. numbers' stamp number (live_numbered q desk stamp number pass live);
+    shows = λ stamp number live. shows' stamp number (live_numbered q desk writes stamp number pass live);
+    numbers = λ stamp number live. numbers' stamp number (live_numbered q desk writes stamp number pass live);
     current = λ t key p p' a a' is is'. f.current t key p p' a a'
         (committed_current q desk.newest desk.commits (slot t p) (f.slots t p) is) (committed_current q desk.newest desk.commits (slot t p') (f.slots t p') is');
     own = keeps_own;

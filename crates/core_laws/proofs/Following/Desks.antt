@@ -7,6 +7,7 @@ use Rattle.txn_desk.specs.Oldest.{HasPass, snapshot_of}
 use Rattle.txn_desk.specs.declared.Snapshot.{Snapshot}
 use Rattle.event_spec.specs.Effects.{opened, closed, numbered}
 use Rattle.event_spec.specs.Follows.{IsLive}
+use Rattle.isolation_spec.specs.Contents.{PlaceMap}
 
 -- two numbers are the same or not
 pub same_number : (a b : ℕ) → (a ≡ b) ⊎ (a ≢ b)
@@ -63,11 +64,11 @@ live_closed q desk stamp number pass (inr open') = go (same_number open'.0 q)
     go (inr ne) = inr (open'.0, open'.1, sym (closed_other q open'.0 desk pass.0 open'.1 ne) ∙ open'.2)
 
 -- after a commit that wrote the newest is its own, and the others were live
-pub live_numbered : (q : ℕ) (desk : DeskState) (stamp number : ℕ) → HasPass desk q → IsLive (closed q (numbered desk)) stamp number
+pub live_numbered : (q : ℕ) (desk : DeskState) (writes : PlaceMap ℕ) (stamp number : ℕ) → HasPass desk q → IsLive (closed q (numbered writes desk)) stamp number
     → ((stamp ≡ desk.newest + 1) × (number ≡ desk.commits + 1)) ⊎ ((r : ℕ) × (1 ≤ r) × (r ≢ q) × (snapshot_of desk r ≡ Some (record { stamp = stamp; number = number })))
-live_numbered q desk stamp number pass (inl newest) = inl newest
-live_numbered q desk stamp number pass (inr open') = go (same_number open'.0 q)
+live_numbered q desk writes stamp number pass (inl newest) = inl newest
+live_numbered q desk writes stamp number pass (inr open') = go (same_number open'.0 q)
   where
     go : (open'.0 ≡ q) ⊎ (open'.0 ≢ q) → ((stamp ≡ desk.newest + 1) × (number ≡ desk.commits + 1)) ⊎ ((r : ℕ) × (1 ≤ r) × (r ≢ q) × (snapshot_of desk r ≡ Some (record { stamp = stamp; number = number })))
-    go (inl e) = absurd (none_not (snapshot_of (closed q (numbered desk)) q) (record { stamp = stamp; number = number }) (closed_own q (numbered desk) pass) (ap (snapshot_of (closed q (numbered desk))) (sym e) ∙ open'.2))
-    go (inr ne) = inr (open'.0, open'.1, ne, sym (closed_other q open'.0 (numbered desk) pass.0 open'.1 ne) ∙ open'.2)
+    go (inl e) = absurd (none_not (snapshot_of (closed q (numbered writes desk)) q) (record { stamp = stamp; number = number }) (closed_own q (numbered writes desk) pass) (ap (snapshot_of (closed q (numbered writes desk))) (sym e) ∙ open'.2))
+    go (inr ne) = inr (open'.0, open'.1, ne, sym (closed_other q open'.0 (numbered writes desk) pass.0 open'.1 ne) ∙ open'.2)

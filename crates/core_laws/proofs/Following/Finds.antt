@@ -11,7 +11,7 @@ use Rattle.event_spec.specs.Judged.{first_at, found_at}
 use Rattle.event_spec.specs.Lawful.{Among}
 use Rattle.event_spec.specs.Follows.{Follows}
 use Rattle.core_laws.specs.Following.Owned.{HasOpen, OwnSlot, own_key}
-use Rattle.core_laws.proofs.Following.Overlays.{over}
+use Rattle.isolation_laws.proofs.Overlays.{over}
 use Rattle.core_laws.proofs.Slots.Views.{seen_writer, seen_other}
 use Rattle.core_laws.proofs.Following.Desks.{none_not}
 use Rattle.core_laws.proofs.Following.Firsts.{first_none, first_is}

@@ -112,18 +112,18 @@ append_right : (k : ℕ) (xs ys : List ℕ) → Among k ys → Among k (xs ++ ys
 append_right k [] ys a = a
 append_right k (x ∷ xs) ys a = inr (append_right k xs ys a)
 
--- what is among joined lists is in the list of one of the places
-pub among_flat : (numbers : ℕ → List ℕ) (ps : List ℕ) (k : ℕ) → Among k (flat_map numbers ps) → (p : ℕ) × Among p ps × Among k (numbers p)
+-- what is among joined lists is in one of them
+pub among_flat : {X : Type 0} (numbers : X → List ℕ) (ps : List X) (k : ℕ) → Among k (flat_map numbers ps) → (p : X) × Among p ps × Among k (numbers p)
 among_flat numbers [] k a = absurd a
-among_flat numbers (p ∷ ps) k a = go (among_append k (numbers p) (flat_map numbers ps) a) (among_flat numbers ps k)
+among_flat {X} numbers (p ∷ ps) k a = go (among_append k (numbers p) (flat_map numbers ps) a) (among_flat numbers ps k)
   where
-    go : Among k (numbers p) ⊎ Among k (flat_map numbers ps) → (Among k (flat_map numbers ps) → (p' : ℕ) × Among p' ps × Among k (numbers p'))
-        → (p' : ℕ) × Among p' (p ∷ ps) × Among k (numbers p')
+    go : Among k (numbers p) ⊎ Among k (flat_map numbers ps) → (Among k (flat_map numbers ps) → (p' : X) × Among p' ps × Among k (numbers p'))
+        → (p' : X) × Among p' (p ∷ ps) × Among k (numbers p')
     go (inl a) rest = (p, inl refl, a)
     go (inr b) rest = let r = rest b in (r.0, inr r.1, r.2)
 
--- what is in the list of one of the places is among the joined lists
-pub flat_among : (numbers : ℕ → List ℕ) (ps : List ℕ) (p k : ℕ) → Among p ps → Among k (numbers p) → Among k (flat_map numbers ps)
+-- what is in one of them is among the joined lists
+pub flat_among : {X : Type 0} (numbers : X → List ℕ) (ps : List X) (p : X) (k : ℕ) → Among p ps → Among k (numbers p) → Among k (flat_map numbers ps)
 flat_among numbers [] p k a n = absurd a
 flat_among numbers (x ∷ ps) p k (inl e) n = append_left k (numbers x) (flat_map numbers ps) (subst (λ y. Among k (numbers y)) e n)
 flat_among numbers (x ∷ ps) p k (inr a) n = append_right k (numbers x) (flat_map numbers ps) (flat_among numbers ps p k a n)

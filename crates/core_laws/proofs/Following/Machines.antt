@@ -1,10 +1,10 @@
 -- The machine: its open transactions after a step, and what its history has at a place.
-use Rattle.std.proofs.Common.{◌≡◌, ◌≢◌, ℕ, zero, suc, ◌+◌, ◌≤◌, Bool, true, false, not, cond, ◌==◌, List, [], ◌∷◌, ◌++◌, map, Option, None, Some, option_map, fold, is_some, refl, sym, ap, subst, ◌∙◌, arith, take, drop, length, take_all, All, length-drop, pos, ◌-◌}
+use Rattle.std.proofs.Common.{◌≡◌, ◌≢◌, ℕ, zero, suc, ◌+◌, ◌≤◌, Bool, true, false, not, cond, ◌==◌, List, [], ◌∷◌, ◌++◌, map, Option, None, Some, option_map, fold, is_some, refl, sym, ap, subst, ◌∙◌, arith, take, drop, length, take_all, All, length-drop, ◌-◌}
 use Rattle.std.specs.Prelude.{filter, find}
 use Rattle.std.specs.Option.{option_or}
 use Rattle.std.proofs.lemmas.Bool.Decides.{nat_tests}
 use Rattle.std.proofs.lemmas.List.{drop_all, take-append-le, drop-append-le, take-append-drop, length_push}
-use Rattle.std.proofs.lemmas.List.Elements.{All-nil, All-cons, All-head, All-tail}
+use Rattle.std.proofs.lemmas.List.Elements.{All-head, All-tail}
 use Rattle.std.proofs.lemmas.List.Sums.{fold-append}
 use Rattle.cell_model.specs.declared.cell.Cell.{Cell}
 use Rattle.isolation_spec.specs.Contents.{at_place, State, WriteSet, History, laid_over, state_at}
@@ -12,8 +12,10 @@ use Rattle.isolation_spec.specs.Machine.{Transaction, entered, writes_place, lat
 use Rattle.isolation_laws.proofs.Later.{last_writer, last-later}
 use Rattle.std.specs.List.{last_or}
 use Rattle.isolation_spec.specs.declared.place.Place.{Place}
-use Rattle.event_spec.specs.Follows.{InOrder, OneEach}
-use Rattle.core_laws.proofs.Following.Overlays.{at-laid_over, over}
+use Rattle.event_spec.specs.Follows.{OneEach}
+use Rattle.isolation_spec.specs.Order.{InOrder}
+use Rattle.isolation_laws.proofs.Overlays.{at-laid_over, over}
+use Rattle.isolation_laws.proofs.States.{state-order}
 
 -- the transaction of a session among some
 abbrev pub of : ℕ → List Transaction → Option Transaction
@@ -221,27 +223,11 @@ state-after history w =
     ∙ fold-append laid_over [] history (w ∷ [])
     ∙ ap (λ h. laid_over (fold laid_over [] h) w) (sym (take_all (length history) history (omega arith)))
 
--- Write sets in order that are laid over rows in order leave them in order.
-order_onto : (rows : State) (ws : List WriteSet) → InOrder rows → All InOrder ws → InOrder (fold laid_over rows ws)
-order_onto rows [] order all = order
-order_onto rows (w ∷ ws) order all =
-    order_onto (laid_over rows w) ws (at-laid_over rows w (record { table = 0; key = pos 0 }) order (All-head InOrder w ws all)).1 (All-tail InOrder w ws all)
-
--- Where all write sets are in order, the first of them are.
-All-take : (n : ℕ) (ws : List WriteSet) → All InOrder ws → All InOrder (take n ws)
-All-take zero ws all = All-nil InOrder
-All-take (suc n) [] all = all
-All-take (suc n) (w ∷ ws) all = All-cons InOrder w (take n ws) (All-head InOrder w ws all) (All-take n ws (All-tail InOrder w ws all))
-
 -- Where all write sets are in order, those behind the first are.
 All-drop : (n : ℕ) (ws : List WriteSet) → All InOrder ws → All InOrder (drop n ws)
 All-drop zero ws all = all
 All-drop (suc n) [] all = all
 All-drop (suc n) (w ∷ ws) all = All-drop n ws (All-tail InOrder w ws all)
-
--- the rows of each state stand in order where the writes of each commit do
-pub state-order : (history : History) (n : ℕ) → All InOrder history → InOrder (state_at history n)
-state-order history n all = order_onto [] (take n history) tt (All-take n history all)
 
 -- where no later commit wrote a place, it has what it had
 stays_onto : (place : Place) (at : ℕ) (rows : State) (ws : List WriteSet) → InOrder rows → All InOrder ws → last_writer place at ws ≡ None → at_place (fold laid_over rows ws) place ≡ at_place rows place

@@ -322,6 +322,7 @@ module _ (slot : ℕ → ℕ → Slot) (places : ℕ → ℤ → List ℕ) (desk
     one_each = f.desked.one_each;
     own_order = f.desked.own_order;
     history_order = f.desked.history_order;
+    wrote = f.desked.wrote;
   }
 
   -- a move of a row keeps what holds between the core and the machine

@@ -12,7 +12,8 @@ use Rattle.isolation_spec.specs.declared.place.Place.{Place}
 use Rattle.isolation_spec.specs.declared.command.Answer.{Answer}
 use Rattle.txn_desk.specs.Desk.{DeskState}
 use Rattle.undo_chain.specs.Conflict.{other_writer, numbers_above, largest}
-use Rattle.core_laws.proofs.Following.Machines.{last_behind, of, state-order, found_session}
+use Rattle.core_laws.proofs.Following.Machines.{last_behind, of, found_session}
+use Rattle.isolation_laws.proofs.States.{state-order}
 use Rattle.block_spec.specs.Slots.{Slot, Row, writer_of, seen}
 use Rattle.core_laws.proofs.Slots.Keys.{HasKey}
 use Rattle.core_laws.specs.Following.Owned.{HasOpen}
@@ -20,7 +21,7 @@ use Rattle.txn_desk.specs.declared.Snapshot.{Snapshot}
 use Rattle.event_spec.specs.Judged.{first_at}
 use Rattle.event_spec.specs.Lawful.{Among}
 use Rattle.event_spec.specs.Follows.{IsLive, Shows, Numbers, Follows}
-use Rattle.core_laws.proofs.Following.Overlays.{at-laid_over, over}
+use Rattle.isolation_laws.proofs.Overlays.{at-laid_over, over}
 use Rattle.core_laws.proofs.Slots.Endings.{seen_keyed}
 use Rattle.core_laws.proofs.Slots.Kept.{same_option, writer_current}
 use Rattle.core_laws.proofs.Following.Desks.{none_not}

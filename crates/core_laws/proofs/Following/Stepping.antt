@@ -1,5 +1,5 @@
 -- What each change keeps, by the machine's steps.
-use Rattle.std.proofs.Common.{◌≡◌, ◌≢◌, ℕ, zero, suc, ◌+◌, ◌-◌, ◌<◌, List, [], ◌∷◌, ◌++◌, Option, None, Some, length, get_or, refl, sym, ap, ◌∙◌, subst, arith}
+use Rattle.std.proofs.Common.{◌≡◌, ◌≢◌, ℕ, zero, suc, ◌+◌, ◌-◌, ◌<◌, false, List, [], ◌∷◌, ◌++◌, Option, None, Some, length, get_or, refl, sym, ap, ◌∙◌, subst, arith}
 use Rattle.std.proofs.lemmas.Option.{same_Some}
 use Rattle.block_spec.specs.Slots.{Row, committed, rolled_back, is_bare, writer_of}
 use Rattle.event_spec.specs.Effects.{opened, closed, numbered}
@@ -63,7 +63,7 @@ judges slot places desk machine session snapshot table key written follows has o
 pub begin_follows : BeginFollows
 begin_follows slot places desk machine session follows pass idle =
     subst (λ (x : Answer × IsolationMachine). Follows slot places (opened session desk) x.1)
-    (sym (ap (step_of machine (command_of session act.Begin)) (follows.desked.idle session pass.0 idle)))
+    (sym (ap (step_of machine (command_of session (act.Begin false))) (follows.desked.idle session pass.0 idle)))
     (begin_keeps slot places desk machine follows session pass idle)
 
 -- a write that the session may make follows the machine's
@@ -79,13 +79,13 @@ write_follows slot after places added desk machine session snapshot table place 
 
 -- a commit with writes follows the machine's
 pub commit_follows : CommitFollows
-commit_follows slot places desk machine session snapshot open' first rest follows has is own =
+commit_follows slot places desk machine session snapshot open' first rest writes follows has is own tables =
     subst (λ (x : Answer × IsolationMachine). Follows
-    (λ table place. committed session (desk.newest + 1) (desk.commits + 1) (slot table place)) places (closed session (numbered desk)) x.1)
+    (λ table place. committed session (desk.newest + 1) (desk.commits + 1) (slot table place)) places (closed session (numbered writes desk)) x.1)
     (sym (ap (step_of machine (command_of session act.Commit)) is ∙ ap (commit machine open') own
     ∙ ap (λ n. (answer.Committed (Some (length machine.history + 1)), record (without n machine) { history = machine.history ++ open'.own ∷ [] }))
     (found_session session machine.open_transactions open' is)))
-    (commit_keeps slot places desk machine follows session (has_pass desk session snapshot has) open' is)
+    (commit_keeps slot places desk machine follows session (has_pass desk session snapshot has) open' is writes tables)
 
 -- nothing written leaves no entry of the session
 pub no_entry : (slot : SlotMap) (places : CandidateMap) (desk : DeskState) (machine : IsolationMachine) (session : ℕ) (snapshot : Snapshot) (open' : Transaction)

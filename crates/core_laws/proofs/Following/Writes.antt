@@ -17,9 +17,10 @@ use Rattle.block_spec.specs.declared.change.Change.{Change}
 use Rattle.core_laws.proofs.Slots.Keys.{HasKey}
 use Rattle.event_spec.specs.SlotSound.{Keyed, IsSoundSlot}
 use Rattle.event_spec.specs.Lawful.{Among}
-use Rattle.event_spec.specs.Follows.{InOrder, IsOlder, Shows, StandsBefore, Numbers, Index, Own, Desked, Follows, is_current}
+use Rattle.event_spec.specs.Follows.{IsOlder, Shows, StandsBefore, Numbers, Index, Own, Desked, Follows, is_current}
+use Rattle.isolation_spec.specs.Order.{InOrder}
 use Rattle.core_laws.proofs.Slots.Ages.{before_among, older_bare, older_written}
-use Rattle.core_laws.proofs.Following.Overlays.{at-insert, order-insert}
+use Rattle.isolation_laws.proofs.Overlays.{at-insert, order-insert}
 use Rattle.core_laws.proofs.Slots.Written.{sound_written}
 use Rattle.core_laws.proofs.Slots.Views.{seen_written}
 use Rattle.core_laws.proofs.Slots.Endings.{written_keyed}
@@ -263,6 +264,7 @@ module _ (slot : ℕ → ℕ → Slot) (places : ℕ → ℤ → List ℕ) (desk
     one_each = one-with_own q place value m.open_transactions f.desked.one_each;
     own_order = λ r tr' is. order' r tr' is (same_number r q);
     history_order = f.desked.history_order;
+    wrote = f.desked.wrote;
   }
     where
       begun' : {n : ℕ} (r : ℕ) → (tr' : Transaction) × (transaction_of r m ≡ Some tr') × (tr'.snapshot ≡ n) × (tr'.session ≡ r) → (r ≡ q) ⊎ (r ≢ q)

@@ -1,5 +1,5 @@
 -- What an event asks of its parts hangs on those that it touches.
-use Rattle.std.proofs.Common.{◌≡◌, ℕ, ◌+◌, ◌<◌, ◌^◌, ℤ, true, false, cond, ◌==◌, List, [], ◌∷◌, ◌++◌, Option, None, Some, is_some, refl, sym, ap, ◌∙◌, subst}
+use Rattle.std.proofs.Common.{◌≡◌, ℕ, ◌+◌, ◌<◌, ◌^◌, ℤ, true, false, cond, ◌==◌, List, [], ◌∷◌, ◌++◌, Option, None, Some, is_some, refl, sym, ap, ◌∙◌, subst, ◌||◌}
 use mathlib.Core.Logic.{inl, inr}
 use Rattle.std.specs.Prelude.{IfSome, option_to_list}
 use Rattle.std.specs.List.{list_any}
@@ -17,13 +17,14 @@ use Rattle.event_spec.specs.Effects.{CoreEvent}
 use Rattle.event_spec.specs.Judged.{current_place}
 use Rattle.event_spec.specs.Lawful.{Among, HasStamp, IsImageOf, IsThawed}
 use Rattle.event_spec.specs.Parts.{CorePart, Parts, Shape, Name, ShardOf, BodyOf, TheDesk, body_at, body_from, desk_from, held_named, names, part_at, places_at, same_name, shard_from, shard_of, slot_at}
-use Rattle.event_spec.specs.Touched.{is_body_moved, touched_by_key, touching}
+use Rattle.event_spec.specs.Touched.{is_body_moved, touched_by_key, touching, is_body_written, touched_by_reads}
 use Rattle.core_laws.proofs.Frames.Looks.{block_among, look, name_self, touches}
 use Rattle.core_laws.specs.Frames.Laws.{Local}
 use Rattle.hall_rule.specs.Hands.{Agrees, Covers}
 use Rattle.isolation_spec.specs.Contents.{key_of}
 use Rattle.key_index.specs.Candidates.{candidates_of}
 use Rattle.txn_desk.specs.Desk.{DeskState}
+use Rattle.event_spec.specs.Newest.{judged_reads}
 
 -- the current place of a key is one of its places
 pub current_among : (slot : ℕ → Slot) (places : List ℕ) (p : ℕ) → current_place slot places ≡ Some p → Among p places
@@ -111,7 +112,10 @@ local sh (event.Delete own t key) hand s u covers here there fits = (
       fits.1,
 )
 local sh (event.Read own t b) hand s u covers here there fits = fits
-local sh (event.Commit own) hand s u covers here there fits = stamp_same sh (event.Commit own) hand s u covers here there refl fits
+local sh (event.Commit own reads) hand s u covers here there fits = (stamp_same sh (event.Commit own reads) hand s u covers here there desk_there fits.0, fits.1)
+  where
+    desk_there : touches sh (event.Commit own reads) hand TheDesk ≡ true
+    desk_there = or_right (is_body_written own.writes TheDesk || touched_by_reads sh (held_named (names sh) hand) (judged_reads own.writes reads) TheDesk) true refl
 local sh (event.Abort own) hand s u covers here there fits = tt
 local sh event.Oldest hand s u covers here there fits = tt
 local sh (event.Observe t b) hand s u covers here there fits = fits

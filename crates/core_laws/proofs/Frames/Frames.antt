@@ -28,12 +28,14 @@ use Rattle.event_spec.specs.declared.part.Head.{Head}
 use Rattle.event_spec.specs.declared.part.Part.TheVariants as part
 use Rattle.event_spec.specs.declared.reply.WriteFault.{WriteFault}
 use Rattle.event_spec.specs.declared.reply.WriteFault.TheVariants.{Exists, Full, Missing}
-use Rattle.event_spec.specs.Effects.{CoreEvent, after_change, after_commit, after_insert, after_move, at_both, change_judged, changes_of, effect, found, half_moved, held_pairs, holds, insert_judged, is_some_write, places_moved, with_place}
+use Rattle.event_spec.specs.Effects.{CoreEvent, after_change, after_commit, after_insert, after_judged, after_move, at_both, change_judged, changes_of, effect, found, half_moved, held_pairs, holds, insert_judged, is_some_write, places_moved, stale_in, with_place}
 use Rattle.event_spec.specs.Judged.{current_place, differences, fault_of, freezing_of, newer_by, next_place}
 use Rattle.event_spec.specs.Lawful.{Among, HasBlock, IsLawful, OwnsAll}
 use Rattle.event_spec.specs.Parts.{Changes, CorePart, Parts, Shape, Name, HeadOf, ShardOf, BodyOf, TheDesk, nothing, names, part_at, changed, each_changed, head_from, shard_from, body_from, same_name, shard_of, slots_of, body_at, desk_at, head_at, held_named, is_head, places_at, slot_at}
 use Rattle.event_spec.specs.Sound.{IsShape, Sound}
-use Rattle.event_spec.specs.Touched.{is_body_moved, is_body_of, is_body_written, is_shard_moved, is_shard_written, touching, passes_test}
+use Rattle.event_spec.specs.Touched.{is_body_moved, is_body_of, is_body_written, is_shard_moved, is_shard_written, touching, passes_test, touched_by_reads}
+use Rattle.isolation_spec.specs.Reads.{ReadSet}
+use Rattle.isolation_spec.specs.declared.read.Read.{Read}
 use Rattle.core_laws.proofs.Following.Writes.{place_is}
 use Rattle.core_laws.proofs.Frames.Distinct.{part_is}
 use Rattle.core_laws.proofs.Frames.Fitness.{body_touched, current_among, shard_touched}
@@ -49,6 +51,7 @@ use Rattle.core_laws.proofs.Slots.Endings.{committed_other, rolled_back_other}
 use Rattle.core_laws.proofs.Slots.Kept.{writer_filled}
 use Rattle.core_laws.proofs.Sound.Written.{judged_ok}
 use Rattle.txn_desk.specs.Desk.{DeskState}
+use Rattle.event_spec.specs.Newest.{judged_reads}
 
 -- Two numbers are tested for equality alike either way around.
 num_flip : (a b : ℕ) → (a == b) ≡ (b == a)
@@ -300,15 +303,23 @@ module _ (sh : Shape) (s : Parts) (hand : List (Option CorePart)) (agrees : Agre
           (or_left (block_of p == block_of p) _ (num_refl (block_of p)))
 
   -- A commit does nothing to a part that it does not touch.
-  commit_rests : (shape : IsShape sh) (ok : Sound sh s) (own : OwnTransaction) → OwnsAll sh own s
-      → (n : Name) (piece : CorePart) → part_at sh s n ≡ Some piece → touches sh (event.Commit own) hand n ≡ false → Rests (after_commit sh s own) n piece
-  commit_rests shape ok own owns n piece is away = record {
+  commit_rests : (shape : IsShape sh) (ok : Sound sh s) (own : OwnTransaction) (reads : Option ReadSet) → OwnsAll sh own s
+      → (n : Name) (piece : CorePart) → part_at sh s n ≡ Some piece → touches sh (event.Commit own reads) hand n ≡ false → Rests (after_commit sh s own) n piece
+  commit_rests shape ok own reads owns n piece is away = record {
     head = λ t x e p. refl;
     shard = λ t i x e p. refl;
-    body = λ t b x e p. at t b x (ap (part_at sh s) (sym e) ∙ is ∙ ap Some p) ((or_parts (is_body_written own.writes (BodyOf t b)) false (ap (touches sh (event.Commit own) hand) (sym e) ∙ away)).0) (is_some_write own.writes);
-    desk = λ x e p. absurd (true_false (ap (touches sh (event.Commit own) hand) (sym e) ∙ away));
+    body = λ t b x e p. at t b x (ap (part_at sh s) (sym e) ∙ is ∙ ap Some p) (unwritten t b (ap (touches sh (event.Commit own reads) hand) (sym e) ∙ away)) (is_some_write own.writes);
+    desk = λ x e p. absurd (true_false (sym desk_there ∙ ap (touches sh (event.Commit own reads) hand) (sym e) ∙ away));
   }
     where
+      desk_there : touches sh (event.Commit own reads) hand TheDesk ≡ true
+      desk_there = or_right (is_body_written own.writes TheDesk || touched_by_reads sh (held_named (names sh) hand) (judged_reads own.writes reads) TheDesk) true refl
+
+      unwritten : (t b : ℕ) → touches sh (event.Commit own reads) hand (BodyOf t b) ≡ false → is_body_written own.writes (BodyOf t b) ≡ false
+      unwritten t b none =
+          (or_parts (is_body_written own.writes (BodyOf t b)) (touched_by_reads sh (held_named (names sh) hand) (judged_reads own.writes reads) (BodyOf t b))
+          (or_parts (is_body_written own.writes (BodyOf t b) || touched_by_reads sh (held_named (names sh) hand) (judged_reads own.writes reads) (BodyOf t b)) false none).0).0
+
       at : (t b : ℕ) (x : Body) → part_at sh s (BodyOf t b) ≡ Some (part.Body x) → is_body_written own.writes (BodyOf t b) ≡ false → (wrote : Bool)
           → (cond wrote (committed_in own.session ((desk_at sh s).newest + 1) ((desk_at sh s).commits + 1)) (λ (body : Body). body)) x ≡ x
       at t b x is none true = commit_stays sh s shape ok own owns t b x is none ((desk_at sh s).newest + 1) ((desk_at sh s).commits + 1)
@@ -419,7 +430,11 @@ module _ (sh : Shape) (s : Parts) (hand : List (Option CorePart)) (agrees : Agre
       (body_touched t key (option_to_list own.written) (candidates_of (shard_from (held_named (names sh) hand (ShardOf t (shard_of key)))) key))
       n piece away (change_judged sh s own t key) refl
   event_rests shape ok shards (event.Read own t b) covers lawful n piece is away = rests_nothing n piece
-  event_rests shape ok shards (event.Commit own) covers lawful n piece is away = commit_rests shape ok own lawful.0 n piece is away
+  event_rests shape ok shards (event.Commit own reads) covers lawful n piece is away = judged (stale_in sh s own reads)
+    where
+      judged : (found : Option (Read × ℕ)) → Rests (after_judged sh s own found) n piece
+      judged None = commit_rests shape ok own reads lawful.0 n piece is away
+      judged (Some stale) = rests_nothing n piece
   event_rests shape ok shards (event.Abort own) covers lawful n piece is away = abort_rests shape ok shards own lawful.0 n piece is away
   event_rests shape ok shards event.Oldest covers lawful n piece is away = rests_nothing n piece
   event_rests shape ok shards (event.Observe t b) covers lawful n piece is away =

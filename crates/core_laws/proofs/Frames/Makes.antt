@@ -1,5 +1,5 @@
 -- What an event makes of the parts that it touches hangs on these.
-use Rattle.std.proofs.Common.{◌≡◌, ◌⊎◌, ℕ, zero, suc, ◌+◌, ℤ, Bool, true, false, cond, not, ◌&&◌, ◌==◌, List, [], ◌∷◌, ◌++◌, Option, Some, is_none, unwrap_or, length, fold, refl, sym, ap, ◌∙◌, arith, subst}
+use Rattle.std.proofs.Common.{◌≡◌, ◌⊎◌, ℕ, zero, suc, ◌+◌, ℤ, Bool, true, false, cond, not, ◌&&◌, ◌==◌, List, [], ◌∷◌, ◌++◌, Option, Some, is_none, unwrap_or, length, fold, refl, sym, ap, ◌∙◌, arith, subst, None}
 use mathlib.Core.Logic.{inl, inr}
 use Rattle.std.specs.Prelude.{filter, slice_get, option_and_then, Result, Ok, Err}
 use Rattle.std.specs.Option.{option_or}
@@ -25,12 +25,14 @@ use Rattle.event_spec.specs.declared.part.Head.{Head}
 use Rattle.event_spec.specs.declared.part.Part.TheVariants as part
 use Rattle.event_spec.specs.declared.reply.WriteFault.{WriteFault}
 use Rattle.event_spec.specs.declared.reply.WriteFault.TheVariants.{Missing}
-use Rattle.event_spec.specs.Effects.{CoreEvent, after_change, after_insert, after_move, after_write, at_both, change_judged, changes_of, closed, found, half_moved, held_pairs, holds, insert_judged, is_some_write, kept_places, moved_row, numbered, with_empty}
+use Rattle.event_spec.specs.Effects.{CoreEvent, after_change, after_commit, after_insert, after_judged, after_move, after_write, at_both, change_judged, changes_of, closed, found, half_moved, held_pairs, holds, insert_judged, is_some_write, kept_places, moved_row, numbered, stale_in, with_empty}
 use Rattle.event_spec.specs.Judged.{current_place, differences, fault_of, freezing_of, newer_by}
 use Rattle.event_spec.specs.Lawful.{Among, HasBlock, HasTable, IsLawful, OwnsAll}
 use Rattle.event_spec.specs.Parts.{Changes, CorePart, Parts, Shape, Name, HeadOf, ShardOf, BodyOf, TheDesk, below, blocks_of, body_at, body_from, changed, desk_at, each_changed, head_at, head_from, is_head, names, nothing, part_at, places_at, same_name, shard_from, shard_of, slot_at}
 use Rattle.event_spec.specs.Sound.{IsShape, Sound}
 use Rattle.event_spec.specs.Touched.{is_body_moved, is_body_written, touching}
+use Rattle.core_laws.proofs.Frames.Judged.{desk_touched, stale_alike}
+use Rattle.isolation_spec.specs.declared.read.Read.{Read}
 use Rattle.core_laws.proofs.Frames.Distinct.{part_is}
 use Rattle.core_laws.proofs.Frames.Fitness.{body_same, current_among}
 use Rattle.core_laws.proofs.Frames.Frames.{abort_stays, skipped}
@@ -206,7 +208,7 @@ module _ (sh : Shape) (s u : Parts) (ok : Sound sh s) (fine : Sound sh u) (t : �
 abbrev commit_by : OwnTransaction → DeskState → Changes
 commit_by own desk = record nothing {
   body = λ t b. cond (is_some_write own.writes) (committed_in own.session (desk.newest + 1) (desk.commits + 1)) (λ body. body);
-  desk = λ desk. closed own.session (cond (is_some_write own.writes) (numbered desk) desk);
+  desk = λ desk. closed own.session (cond (is_some_write own.writes) (numbered own.writes desk) desk);
 }
 
 -- What an observation of a block changes, by its table's head.
@@ -351,8 +353,14 @@ module _ (sh : Shape) (hand : List (Option CorePart)) (s u : Parts) (shape : IsS
       (ap (after_change sh u own t (λ old. change.Gone)) (change_alike sh (event.Delete own t key) hand s u covers here there own t key reads)
       ∙ change_made (event.Delete own t key) covers own t key (λ old. change.Gone) reads (change_judged sh s own t key) refl) n piece
   event_made (event.Read own t b) covers lawful also n piece is was = alike_by _ _ refl n piece
-  event_made (event.Commit own) covers lawful also n piece is was = alike_by (changes_of sh s (event.Commit own)) (changes_of sh u (event.Commit own))
-      (ap (commit_by own) (desk_same sh (event.Commit own) hand s u covers here there refl)) n piece
+  event_made (event.Commit own reads) covers lawful also n piece is was =
+      subst (λ found. Alike (after_judged sh s own (stale_in sh s own reads)) (after_judged sh u own found) n piece) (sym (stale_alike sh own reads hand s u covers here there))
+      (judged_made (stale_in sh s own reads))
+    where
+      judged_made : (found : Option (Read × ℕ)) → Alike (after_judged sh s own found) (after_judged sh u own found) n piece
+      judged_made None = alike_by (after_commit sh s own) (after_commit sh u own)
+          (ap (commit_by own) (desk_same sh (event.Commit own reads) hand s u covers here there (desk_touched sh own reads hand s u covers here there))) n piece
+      judged_made (Some stale) = alike_by _ _ refl n piece
   event_made (event.Abort own) covers lawful also n piece is was = abort_made own covers lawful.0 also.0 n piece is was
   event_made event.Oldest covers lawful also n piece is was = alike_by _ _ refl n piece
   event_made (event.Observe t b) covers lawful also n piece is was = alike_by (changes_of sh s (event.Observe t b)) (changes_of sh u (event.Observe t b))

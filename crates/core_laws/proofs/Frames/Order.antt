@@ -1,7 +1,8 @@
 -- In which order the kinds of parts stand, and that an event asks only what stands before a part.
-use Rattle.std.proofs.Common.{◌≡◌, ◌⊎◌, ℕ, zero, suc, ◌<◌, ◌≤◌, ℤ, false, cond, List, [], ◌∷◌, ◌++◌, Option, None, Some, length, map, refl, sym, ap, ◌∙◌, arith}
+use Rattle.std.proofs.Common.{◌≡◌, ◌⊎◌, ℕ, zero, suc, ◌<◌, ◌≤◌, ℤ, Bool, false, cond, ◌||◌, ◌==◌, List, [], ◌∷◌, ◌++◌, Option, None, Some, length, map, refl, sym, ap, ◌∙◌, arith}
 use mathlib.Core.Logic.{inl, inr}
 use Rattle.std.specs.Prelude.{slice_get, option_to_list}
+use Rattle.std.specs.List.{flat_map, list_any}
 use Rattle.std.specs.Option.{option_or}
 use Rattle.std.proofs.lemmas.Option.{same_Some, none-some}
 use Rattle.core_laws.proofs.Events.Lists.{flat_member, map_member, split}
@@ -11,7 +12,12 @@ use Rattle.event_spec.specs.Effects.{CoreEvent}
 use Rattle.event_spec.specs.Judged.{next_place}
 use Rattle.event_spec.specs.Lawful.{Among}
 use Rattle.event_spec.specs.Parts.{CorePart, Shape, Name, HeadOf, ShardOf, BodyOf, TheDesk, same_name, names, held_named, head_from, shard_from, slots_of, shard_of, below, blocks_of}
-use Rattle.event_spec.specs.Touched.{passes_test, touched, touched_by_insert, touched_by_key}
+use Rattle.event_spec.specs.declared.own.OwnTransaction.{OwnTransaction}
+use Rattle.event_spec.specs.Newest.{judged_reads, keys_within}
+use Rattle.event_spec.specs.Touched.{held_keys, held_places, is_body_of, is_body_written, passes_test, touched, touched_by_got, touched_by_insert, touched_by_key, touched_by_range, touched_by_reads}
+use Rattle.isolation_spec.specs.declared.place.Place.{Place}
+use Rattle.isolation_spec.specs.declared.read.KeyRange.{KeyRange}
+use Rattle.isolation_spec.specs.Reads.{ReadSet}
 use Rattle.core_laws.proofs.Frames.Looks.{got_among}
 use Rattle.core_laws.specs.Frames.Laws.{Ascends}
 use Rattle.isolation_spec.specs.Contents.{key_of}
@@ -134,6 +140,16 @@ held_before (n ∷ ns) (o ∷ one) (p ∷ other) (suc k) w same none =
     ap (λ x. cond (same_name n w) x (held_named ns one w)) (same_Some o p (same 0 (omega arith)))
     ∙ ap (λ y. cond (same_name n w) p y) (held_before ns one other k w (λ j less. same (suc j) (omega (arith, less))) (λ j m le is. none (suc j) m (omega (arith, le)) is))
 
+-- Tests that agree find alike,
+any_alike : {X : Type 0} (test another : X → Bool) (xs : List X) → ((x : X) → test x ≡ another x) → list_any test xs ≡ list_any another xs
+any_alike test another [] same = refl
+any_alike test another (x ∷ xs) same = ap (λ b. b || list_any test xs) (same x) ∙ ap (λ b. another x || b) (any_alike test another xs same)
+
+-- and one that fails finds nothing.
+any_none : {X : Type 0} (xs : List X) → list_any (λ (x : X). false) xs ≡ false
+any_none [] = refl
+any_none (x ∷ xs) = any_none xs
+
 -- a name of a lower rank is another
 lower : (w n : Name) → rank w < 2 → 2 ≤ rank n → same_name n w ≡ false
 unfolding rank
@@ -174,6 +190,56 @@ module _ (sh : Shape) (one other : List (Option CorePart)) (k : ℕ) (same : (j 
       ∙ ap (λ o. touched_by_insert t key (option_or written (next_place (head_from (held_named (names sh) other (HeadOf t))) (slots_of sh t))) (candidates_of (shard_from o) key) (BodyOf u x))
       (told u x is (ShardOf t (shard_of key)) (omega arith))
 
+  -- the candidates of a key, and the keys of a table between two, by a hand
+  abbrev places_by : List (Option CorePart) → ℕ → ℤ → List ℕ
+  places_by hand t key = held_places sh (held_named (names sh) hand) t key
+
+  abbrev keys_by : List (Option CorePart) → ℕ → ℤ → ℤ → List ℤ
+  keys_by hand t low high = held_keys sh (held_named (names sh) hand) t low high
+
+  -- Whether a key that was got touches a part is told alike,
+  got_told : (place : Place) (n : Name) → slice_get (names sh) k ≡ Some n
+      → touched_by_got sh (held_named (names sh) one) place n ≡ touched_by_got sh (held_named (names sh) other) place n
+  got_told place (HeadOf u) is = refl
+  got_told place (ShardOf u i) is = refl
+  got_told place (BodyOf u x) is = key_told u x place.table place.key None is
+  got_told place TheDesk is = refl
+
+  -- and whether a range does.
+  range_told : (range : KeyRange) (n : Name) → slice_get (names sh) k ≡ Some n
+      → touched_by_range sh (held_named (names sh) one) range n ≡ touched_by_range sh (held_named (names sh) other) range n
+  unfolding rank
+  range_told range (HeadOf u) is = any_none (keys_by one range.table range.low range.high) ∙ sym (any_none (keys_by other range.table range.low range.high))
+  range_told range (ShardOf u i) is =
+      ap (λ b. (range.table == u) || b) (any_none (keys_by one range.table range.low range.high) ∙ sym (any_none (keys_by other range.table range.low range.high)))
+  range_told range (BodyOf u x) is =
+      any_alike (λ key. is_body_of range.table (places_by one range.table key) (BodyOf u x)) (λ key. is_body_of range.table (places_by other range.table key) (BodyOf u x)) (keys_by one range.table range.low range.high)
+      (λ key. ap (λ o. is_body_of range.table (candidates_of (shard_from o) key) (BodyOf u x)) (told u x is (ShardOf range.table (shard_of key)) (omega arith)))
+      ∙ ap (list_any (λ key. is_body_of range.table (places_by other range.table key) (BodyOf u x)))
+      (keys_told (below 8) (λ i. told u x is (ShardOf range.table i) (omega arith)))
+    where
+      keys_told : (shards : List ℕ) → ((i : ℕ) → held_named (names sh) one (ShardOf range.table i) ≡ held_named (names sh) other (ShardOf range.table i))
+          → flat_map (λ i. keys_within range.low range.high (shard_from (held_named (names sh) one (ShardOf range.table i)))) shards
+          ≡ flat_map (λ i. keys_within range.low range.high (shard_from (held_named (names sh) other (ShardOf range.table i)))) shards
+      keys_told [] alike = refl
+      keys_told (i ∷ shards) alike =
+          ap (λ o. keys_within range.low range.high (shard_from o) ++ flat_map (λ i. keys_within range.low range.high (shard_from (held_named (names sh) one (ShardOf range.table i)))) shards) (alike i)
+          ∙ ap (λ ks. keys_within range.low range.high (shard_from (held_named (names sh) other (ShardOf range.table i))) ++ ks) (keys_told shards alike)
+  range_told range TheDesk is = any_none (keys_by one range.table range.low range.high) ∙ sym (any_none (keys_by other range.table range.low range.high))
+
+  -- So is whether a commit does.
+  commit_told : (own : OwnTransaction) (reads : Option ReadSet) (n : Name) → slice_get (names sh) k ≡ Some n
+      → touched sh (held_named (names sh) one) (event.Commit own reads) n ≡ touched sh (held_named (names sh) other) (event.Commit own reads) n
+  commit_told own reads n is = ap (λ b. (is_body_written own.writes n || b) || same_name TheDesk n) (go (judged_reads own.writes reads))
+    where
+      go : (o : Option ReadSet) → touched_by_reads sh (held_named (names sh) one) o n ≡ touched_by_reads sh (held_named (names sh) other) o n
+      go None = refl
+      go (Some set) =
+          ap (λ b. b || list_any (λ range. touched_by_range sh (held_named (names sh) one) range n) set.ranges)
+          (any_alike (λ place. touched_by_got sh (held_named (names sh) one) place n) (λ place. touched_by_got sh (held_named (names sh) other) place n) set.places (λ place. got_told place n is))
+          ∙ ap (λ b. list_any (λ place. touched_by_got sh (held_named (names sh) other) place n) set.places || b)
+          (any_alike (λ range. touched_by_range sh (held_named (names sh) one) range n) (λ range. touched_by_range sh (held_named (names sh) other) range n) set.ranges (λ range. range_told range n is))
+
   -- Whether an event touches a part is told alike, by its name, by hands that agree before it.
   by_name : (e : CoreEvent) (n : Name) → slice_get (names sh) k ≡ Some n → touched sh (held_named (names sh) one) e n ≡ touched sh (held_named (names sh) other) e n
   by_name (event.Begin q) n is = refl
@@ -194,7 +260,7 @@ module _ (sh : Shape) (one other : List (Option CorePart)) (k : ℕ) (same : (j 
   by_name (event.Delete own t key) (BodyOf u x) is = key_told u x t key own.written is
   by_name (event.Delete own t key) TheDesk is = refl
   by_name (event.Read own t b) n is = refl
-  by_name (event.Commit own) n is = refl
+  by_name (event.Commit own reads) n is = commit_told own reads n is
   by_name (event.Abort own) n is = refl
   by_name event.Oldest n is = refl
   by_name (event.Observe t b) n is = refl

@@ -21,14 +21,16 @@ use Rattle.event_spec.specs.declared.part.Head.{Head}
 use Rattle.event_spec.specs.declared.reply.Reply.TheVariants as reply
 use Rattle.event_spec.specs.declared.reply.WriteFault.{WriteFault}
 use Rattle.event_spec.specs.declared.reply.WriteFault.TheVariants.{Exists, Full, Missing}
-use Rattle.event_spec.specs.Effects.{CoreEvent, change_judged, found, has_key, held_pairs, holds, insert_judged, is_some_write}
+use Rattle.event_spec.specs.Effects.{CoreEvent, change_judged, found, has_key, held_pairs, holds, insert_judged, is_some_write, stale_in}
 use Rattle.event_spec.specs.Judged.{current_place, fault_of, first_at, found_at, found_by, freezing_of, judged, judged_change, judged_insert, newer_by, next_place}
 use Rattle.event_spec.specs.Lawful.{Among, HasBlock}
 use Rattle.event_spec.specs.Parts.{CorePart, Parts, Shape, HeadOf, ShardOf, BodyOf, TheDesk, below, body_at, desk_at, desk_from, head_at, head_from, held_named, is_head, names, places_at, same_name, shard_from, shard_of, slot_at, slots_of}
-use Rattle.event_spec.specs.Replies.{CoreReply, is_elsewhere, reply_to_image, reply_to_read, reply_to_seal, reply_to_write, row_read, rows_read}
+use Rattle.event_spec.specs.Replies.{CoreReply, is_elsewhere, reply_to_commit, reply_to_image, reply_to_read, reply_to_seal, reply_to_write, row_read, rows_read}
 use Rattle.event_spec.specs.Sound.{IsShape, Sound}
 use Rattle.event_spec.specs.Touched.{is_body_moved, is_body_of, touched_by_key, touching}
+use Rattle.isolation_spec.specs.declared.read.Read.{Read}
 use Rattle.core_laws.proofs.Frames.Fitness.{body_same, body_touched, current_among, current_same, part_same, shard_touched}
+use Rattle.core_laws.proofs.Frames.Judged.{desk_touched, stale_alike}
 use Rattle.core_laws.proofs.Frames.Looks.{any_true, block_among, look, name_self, touches}
 use Rattle.core_laws.specs.Frames.Laws.{Replies}
 use Rattle.hall_rule.specs.Hands.{Agrees, Covers}
@@ -301,8 +303,14 @@ replies sh (event.Delete own t key) hand s u shape ok fits here there covers =
     ap reply_to_write (change_alike sh (event.Delete own t key) hand s u covers here there own t key (delete_reads sh hand s u here there own t key covers))
 replies sh (event.Read own t b) hand s u shape ok fits here there covers =
     read_alike sh hand s u here there own t b shape ok fits (body_same sh (event.Read own t b) hand s u covers here there t b (name_self (BodyOf t b)))
-replies sh (event.Commit own) hand s u shape ok fits here there covers =
-    ap (λ (desk : DeskState). reply.Committed (cond (is_some_write own.writes) (Some (desk.commits + 1)) None)) (desk_same sh (event.Commit own) hand s u covers here there refl)
+replies sh (event.Commit own reads) hand s u shape ok fits here there covers =
+    ap (reply_to_commit sh u own) (stale_alike sh own reads hand s u covers here there) ∙ judged_alike (stale_in sh s own reads)
+  where
+    judged_alike : (found : Option (Read × ℕ)) → reply_to_commit sh u own found ≡ reply_to_commit sh s own found
+    judged_alike None =
+        ap (λ (desk : DeskState). reply.Committed (cond (is_some_write own.writes) (Some (desk.commits + 1)) None))
+        (desk_same sh (event.Commit own reads) hand s u covers here there (desk_touched sh own reads hand s u covers here there))
+    judged_alike (Some stale) = refl
 replies sh (event.Abort own) hand s u shape ok fits here there covers = refl
 replies sh event.Oldest hand s u shape ok fits here there covers = ap (λ desk. reply.Oldest (oldest_of desk)) (desk_same sh event.Oldest hand s u covers here there refl)
 replies sh (event.Observe t b) hand s u shape ok fits here there covers =

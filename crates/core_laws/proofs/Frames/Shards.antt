@@ -21,11 +21,12 @@ use Rattle.event_spec.specs.declared.own.OwnKey.{OwnKey}
 use Rattle.event_spec.specs.declared.part.Head.{Head}
 use Rattle.event_spec.specs.declared.part.Part.TheVariants as part
 use Rattle.event_spec.specs.declared.reply.WriteFault.{WriteFault}
-use Rattle.event_spec.specs.Effects.{CoreEvent, after_change, after_insert, after_move, at_both, change_judged, changes_of, held_pairs, insert_judged, kept_places, places_moved, with_place}
+use Rattle.event_spec.specs.Effects.{CoreEvent, after_change, after_insert, after_judged, after_move, at_both, change_judged, changes_of, held_pairs, insert_judged, kept_places, places_moved, stale_in, with_place}
 use Rattle.event_spec.specs.Judged.{differences}
 use Rattle.event_spec.specs.Lawful.{Among}
 use Rattle.event_spec.specs.Parts.{Changes, CorePart, Parts, Shape, Name, ShardOf, nothing, names, part_named, changed, each_changed, same_name, shard_of, is_head, body_at}
 use Rattle.event_spec.specs.Replay.{opening_part}
+use Rattle.isolation_spec.specs.declared.read.Read.{Read}
 use Rattle.core_laws.proofs.Frames.Looks.{any_true, true_false}
 use Rattle.core_laws.specs.Frames.Laws.{ShardsKept, ShardsOpen}
 use Rattle.core_laws.specs.Frames.Shards.{ShardHolds, ShardsHold}
@@ -233,7 +234,11 @@ module _ (sh : Shape) (s : Parts) where
   event_holds (event.Update own t row) u i x h = change_holds own t (λ old. change.Patch (differences 0 old row)) (change_judged sh s own t (key_of row)) u i x h
   event_holds (event.Delete own t key) u i x h = change_holds own t (λ old. change.Gone) (change_judged sh s own t key) u i x h
   event_holds (event.Read own t b) u i x h = h
-  event_holds (event.Commit own) u i x h = h
+  event_holds (event.Commit own reads) u i x h = judged (stale_in sh s own reads)
+    where
+      judged : (found : Option (Read × ℕ)) → ShardHolds i ((after_judged sh s own found).shard u i x)
+      judged None = h
+      judged (Some stale) = h
   event_holds (event.Abort own) u i x h = kept_holds i _ x h
   event_holds event.Oldest u i x h = h
   event_holds (event.Observe t b) u i x h = h

@@ -21,11 +21,12 @@ use Rattle.event_spec.specs.declared.event.Event.TheVariants as event
 use Rattle.event_spec.specs.declared.event.MovePair.{MovePair}
 use Rattle.event_spec.specs.declared.own.OwnKey.{OwnKey}
 use Rattle.event_spec.specs.declared.reply.WriteFault.{WriteFault}
-use Rattle.event_spec.specs.Effects.{CoreEvent, after_change, after_insert, after_move, at_both, change_judged, changes_of, held_pairs, holds, insert_judged, is_some_write, moved_row}
+use Rattle.event_spec.specs.Effects.{CoreEvent, after_change, after_insert, after_judged, after_move, at_both, change_judged, changes_of, held_pairs, holds, insert_judged, is_some_write, moved_row, stale_in}
 use Rattle.event_spec.specs.Judged.{differences}
 use Rattle.event_spec.specs.Lawful.{Among, HasBlock, IsLawful, IsThawed}
 use Rattle.event_spec.specs.Parts.{Parts, Shape, nothing, body_at, desk_at, is_head, slot_at}
 use Rattle.event_spec.specs.Sound.{IsShape, Sound}
+use Rattle.isolation_spec.specs.declared.read.Read.{Read}
 use Rattle.core_laws.specs.Frozen.Laws.{FrozenIsSettled, FrozenStays, stamp_of}
 use Rattle.core_laws.proofs.Frozen.Loose.{insert_loose, pair_loose, sealable}
 use Rattle.isolation_spec.specs.Contents.{key_of}
@@ -210,7 +211,11 @@ module _ (sh : Shape) (s : Parts) (shape : IsShape sh) (ok : Sound sh s) (t b : 
   event_same (event.Update own u row) lawful ne = change_same own u (key_of row) (λ old. change.Patch (differences 0 old row)) lawful.1.2
   event_same (event.Delete own u key) lawful ne = change_same own u key (λ old. change.Gone) lawful.1.1
   event_same (event.Read own u y) lawful ne = same (body_at sh s t b)
-  event_same (event.Commit own) lawful ne = commit_same (is_some_write own.writes) own.session ((desk_at sh s).newest + 1) ((desk_at sh s).commits + 1)
+  event_same (event.Commit own reads) lawful ne = judged (stale_in sh s own reads)
+    where
+      judged : (found : Option (Read × ℕ)) → Same (body_at sh s t b) ((after_judged sh s own found).body t b (body_at sh s t b))
+      judged None = commit_same (is_some_write own.writes) own.session ((desk_at sh s).newest + 1) ((desk_at sh s).commits + 1)
+      judged (Some stale) = same (body_at sh s t b)
   event_same (event.Abort own) lawful ne = abort_same own.session
   event_same event.Oldest lawful ne = same (body_at sh s t b)
   event_same (event.Observe u y) lawful ne = at_one u y (observed (is_head sh s u y)) t b (body_at sh s t b) (λ e e'. record { slots = refl; stamp = refl })

@@ -1,5 +1,5 @@
 -- What may become of a block's phase by one event.
-use Rattle.std.proofs.Common.{◌≡◌, ◌⊎◌, ℕ, ◌+◌, ◌<◌, Bool, true, false, cond, ◌&&◌, ◌==◌, List, [], ◌∷◌, map, fold, None, is_none, unwrap_or, refl, ◌∙◌, arith}
+use Rattle.std.proofs.Common.{◌≡◌, ◌⊎◌, ℕ, ◌+◌, ◌<◌, Bool, true, false, cond, ◌&&◌, ◌==◌, List, [], ◌∷◌, map, fold, None, is_none, unwrap_or, refl, ◌∙◌, arith, Option, Some}
 use mathlib.Core.Logic.{inl, inr}
 use Rattle.std.specs.Prelude.{Result, Ok, Err}
 use Rattle.block_layout.specs.Place.{block_of, slot_of}
@@ -13,9 +13,10 @@ use Rattle.event_spec.specs.declared.event.Event.TheVariants as event
 use Rattle.event_spec.specs.declared.event.MovePair.{MovePair}
 use Rattle.event_spec.specs.declared.own.OwnKey.{OwnKey}
 use Rattle.event_spec.specs.declared.reply.WriteFault.{WriteFault}
-use Rattle.event_spec.specs.Effects.{CoreEvent, after_change, after_insert, after_move, at_both, change_judged, changes_of, held_pairs, insert_judged, is_some_write, moved_row}
+use Rattle.event_spec.specs.Effects.{CoreEvent, after_change, after_insert, after_judged, after_move, at_both, change_judged, changes_of, held_pairs, insert_judged, is_some_write, moved_row, stale_in}
 use Rattle.event_spec.specs.Judged.{differences}
 use Rattle.event_spec.specs.Parts.{Parts, Shape, nothing, body_at, desk_at, is_head, slot_at}
+use Rattle.isolation_spec.specs.declared.read.Read.{Read}
 use Rattle.isolation_spec.specs.Contents.{key_of}
 
 -- What may become of a body's phase: one with a stamp above the body's last, one without a stamp,
@@ -113,7 +114,11 @@ module _ (sh : Shape) (s : Parts) (t b : ℕ) where
   event_goes (event.Update own u row) y = change_goes own u (λ old. change.Patch (differences 0 old row)) (change_judged sh s own u (key_of row)) y
   event_goes (event.Delete own u key) y = change_goes own u (λ old. change.Gone) (change_judged sh s own u key) y
   event_goes (event.Read own u x) y = stays y y refl
-  event_goes (event.Commit own) y = commit_goes (is_some_write own.writes) own.session ((desk_at sh s).newest + 1) ((desk_at sh s).commits + 1) y
+  event_goes (event.Commit own reads) y = judged (stale_in sh s own reads)
+    where
+      judged : (found : Option (Read × ℕ)) → Goes y ((after_judged sh s own found).body t b y)
+      judged None = commit_goes (is_some_write own.writes) own.session ((desk_at sh s).newest + 1) ((desk_at sh s).commits + 1) y
+      judged (Some stale) = stays y y refl
   event_goes (event.Abort own) y = abort_goes own.session y
   event_goes event.Oldest y = stays y y refl
   event_goes (event.Observe u x) y = at_one u x (observed (is_head sh s u x)) (λ y. stays y (observed (is_head sh s u x) y) refl) t b y

@@ -14,10 +14,11 @@ use Rattle.event_spec.specs.declared.event.MovePair.{MovePair}
 use Rattle.event_spec.specs.declared.own.OwnKey.{OwnKey}
 use Rattle.event_spec.specs.declared.reply.Reply.TheVariants as reply
 use Rattle.event_spec.specs.declared.reply.WriteFault.{WriteFault}
-use Rattle.event_spec.specs.Effects.{CoreEvent, after_change, after_insert, after_move, at_both, change_judged, changes_of, effect, held_pairs, insert_judged, is_some_write, moved_row}
+use Rattle.event_spec.specs.Effects.{CoreEvent, after_change, after_insert, after_judged, after_move, at_both, change_judged, changes_of, effect, held_pairs, insert_judged, is_some_write, moved_row, stale_in}
 use Rattle.event_spec.specs.Judged.{differences}
 use Rattle.event_spec.specs.Parts.{Parts, Shape, nothing, body_at, desk_at, is_head, slot_at}
 use Rattle.event_spec.specs.Replies.{CoreReply, reply_to_seal}
+use Rattle.isolation_spec.specs.declared.read.Read.{Read}
 use Rattle.core_laws.specs.Frozen.Laws.{SealsAreNew, StampsRise}
 use Rattle.isolation_spec.specs.Contents.{key_of}
 use Rattle.core_laws.proofs.Sound.Keeps.{shaped}
@@ -99,7 +100,11 @@ module _ (sh : Shape) (s : Parts) (t b : ℕ) where
   event_last (event.Update own u row) y = change_last own u (λ old. change.Patch (differences 0 old row)) (change_judged sh s own u (key_of row)) y
   event_last (event.Delete own u key) y = change_last own u (λ old. change.Gone) (change_judged sh s own u key) y
   event_last (event.Read own u x) y = omega arith
-  event_last (event.Commit own) y = commit_last (is_some_write own.writes) own.session ((desk_at sh s).newest + 1) ((desk_at sh s).commits + 1) y
+  event_last (event.Commit own reads) y = judged (stale_in sh s own reads)
+    where
+      judged : (found : Option (Read × ℕ)) → y.last ≤ ((after_judged sh s own found).body t b y).last
+      judged None = commit_last (is_some_write own.writes) own.session ((desk_at sh s).newest + 1) ((desk_at sh s).commits + 1) y
+      judged (Some stale) = omega arith
   event_last (event.Abort own) y = abort_last own.session y
   event_last event.Oldest y = omega arith
   event_last (event.Observe u x) y = at_one u x (observed (is_head sh s u x)) (λ y. omega arith) t b y

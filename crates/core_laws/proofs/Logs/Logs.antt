@@ -9,7 +9,7 @@ use Rattle.core_laws.specs.Events.Named.{FollowsMachine}
 use Rattle.event_spec.specs.declared.event.Event.TheVariants as event
 use Rattle.event_spec.specs.declared.reply.Reply.TheVariants as reply
 use Rattle.event_spec.specs.Effects.{CoreEvent, effect}
-use Rattle.event_spec.specs.Lawful.{IsLawful, takes_memory}
+use Rattle.event_spec.specs.Lawful.{IsLawful, reads_handed, takes_memory}
 use Rattle.event_spec.specs.Parts.{Parts, Shape, desk_at}
 use Rattle.event_spec.specs.Replay.{IsLawfulFrom, Made, after, opening, reply_after}
 use Rattle.event_spec.specs.Replies.{reply_to}
@@ -54,14 +54,14 @@ module _ (sh : Shape) (s : Parts) (ok : Sound sh s) (m : IsolationMachine) (f : 
       ap is_some old.1
 
   -- an event refused for memory is a refusal to the machine as well
-  memory_step : (e : CoreEvent) → IsLawful sh e s → takes_memory e ≡ true → IsStep (command_in e) m reply.Memory m
+  memory_step : (e : CoreEvent) → IsLawful sh e s → takes_memory e ≡ true → IsStep (command_in e) (reads_handed e) m reply.Memory m
   memory_step (event.Begin q) lawful takes = cc
   memory_step (event.Get own t key) lawful takes = (inl tt, has_one own.session own.snapshot (key_open sh s ok own t key lawful.0), refl)
   memory_step (event.Insert own t row) lawful takes = (inr (inr tt), has_one own.session own.snapshot (key_open sh s ok own t (key_of row) lawful.0), refl)
   memory_step (event.Update own t row) lawful takes = (inr (inl tt), has_one own.session own.snapshot (key_open sh s ok own t (key_of row) lawful.0), refl)
   memory_step (event.Delete own t key) lawful takes = (inr (inl tt), has_one own.session own.snapshot (key_open sh s ok own t key lawful.0), refl)
   memory_step (event.Read own t b) lawful takes = refl
-  memory_step (event.Commit own) lawful takes = cc
+  memory_step (event.Commit own reads) lawful takes = cc
   memory_step (event.Abort own) lawful takes = cc
   memory_step event.Oldest lawful takes = refl
   memory_step (event.Observe t b) lawful takes = refl
@@ -75,11 +75,11 @@ module _ (sh : Shape) (s : Parts) (ok : Sound sh s) (m : IsolationMachine) (f : 
 -- an event as it was made, be it refused for memory, is a step of the machine or none
 pub made_step : (sh : Shape) (s : Parts) (made : Made) (m : IsolationMachine) → IsShape sh → Sound sh s → FollowsMachine sh s m → IsLawful sh made.event s
     → (made.refused ≡ true → takes_memory made.event ≡ true)
-    → (next : IsolationMachine) × IsStep (command_in made.event) m (reply_after sh s made) next × FollowsMachine sh (after sh s made) next
+    → (next : IsolationMachine) × IsStep (command_in made.event) (reads_handed made.event) m (reply_after sh s made) next × FollowsMachine sh (after sh s made) next
 made_step sh s made m shape ok f lawful memory = go made.refused memory
   where
     go : (b : Bool) → (b ≡ true → takes_memory made.event ≡ true)
-        → (next : IsolationMachine) × IsStep (command_in made.event) m (cond b reply.Memory (reply_to sh s made.event)) next × FollowsMachine sh (cond b s (effect sh s made.event)) next
+        → (next : IsolationMachine) × IsStep (command_in made.event) (reads_handed made.event) m (cond b reply.Memory (reply_to sh s made.event)) next × FollowsMachine sh (cond b s (effect sh s made.event)) next
     go true memory = (m, memory_step sh s ok m f made.event lawful (memory refl), f)
     go false memory = steps sh s made.event shape ok lawful m f
 

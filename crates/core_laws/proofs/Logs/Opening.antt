@@ -19,7 +19,8 @@ use Rattle.core_laws.proofs.Events.Naming.{body_named, desk_named, desk_there, e
 use Rattle.core_laws.specs.Events.Named.{FollowsMachine}
 use Rattle.core_laws.proofs.Events.States.{name_is}
 use Rattle.event_spec.specs.declared.part.Head.{Head}
-use Rattle.event_spec.specs.Follows.{Follows, InOrder}
+use Rattle.event_spec.specs.Follows.{Follows}
+use Rattle.isolation_spec.specs.Order.{InOrder}
 use Rattle.event_spec.specs.Lawful.{Among, HasBlock, HasTable}
 use Rattle.event_spec.specs.Parts.{CorePart, Parts, Shape, Name, HeadOf, ShardOf, BodyOf, TheDesk, same_name, names, part_named, part_at, head_from, shard_from, body_from, desk_from, head_at, body_at, desk_at, slot_at, places_at, blocks_of, slots_of, below, shard_of}
 use Rattle.event_spec.specs.Replay.{columns_in, opening, opening_head, opening_part}
@@ -130,7 +131,7 @@ module _ (sh : Shape) (shape : IsShape sh) where
 
   -- the desk at first
   abbrev pub new_desk : DeskState
-  new_desk = record { newest = 0; commits = 0; open_snapshots = replicate sh.passes None }
+  new_desk = record { newest = 0; commits = 0; open_snapshots = replicate sh.passes None; wrote = replicate 16 0 }
 
   -- it is the desk of the opening core
   pub desk : desk_at sh s ≡ new_desk
@@ -166,6 +167,7 @@ module _ (sh : Shape) (shape : IsShape sh) where
       one_each = tt;
       own_order = λ q open' is. absurd (none-some open' is);
       history_order = All-nil InOrder;
+      wrote = λ table few. replicated 16 0 table;
     };
     shows = λ stamp number live. record {
       there = λ t p row is. absurd (none-some row is);

@@ -14,6 +14,7 @@ use Rattle.block_spec.specs.Slots.{Row}
 use Rattle.core_laws.proofs.Events.Aborted.{filter_among}
 use Rattle.core_laws.proofs.Events.Lists.{below_member, member_below}
 use Rattle.core_laws.proofs.Events.Steps.{steps}
+use Rattle.core_laws.proofs.Events.Plain.{plain}
 use Rattle.core_laws.specs.Events.Laws.{IsTold}
 use Rattle.core_laws.specs.Events.Named.{FollowsMachine}
 use Rattle.event_spec.specs.declared.event.Event.TheVariants as event
@@ -88,7 +89,7 @@ module _ (sh : Shape) (s : Parts) (own : OwnKey) (t : ℕ) (row : Row) (m : Isol
   command = command_of own.session (act.Insert t row)
 
   -- The machine goes with the reply to the insert, and the core behind it follows.
-  told : (next : IsolationMachine) × IsTold m command (reply_to_write (insert_judged sh s own t (key_of row))) next × FollowsMachine sh (effect sh s (event.Insert own t row)) next
+  told : (next : IsolationMachine) × IsTold m None command (reply_to_write (insert_judged sh s own t (key_of row))) next × FollowsMachine sh (effect sh s (event.Insert own t row)) next
   told = steps sh s (event.Insert own t row) shape ok lawful m f
 
   -- The place where the row would go: its own written one or the head's next.
@@ -145,7 +146,7 @@ module _ (sh : Shape) (s : Parts) (own : OwnKey) (t : ℕ) (row : Row) (m : Isol
   pub full_from : (inserts : ℕ) → reply_to_write (insert_judged sh s own t (key_of row)) ≡ reply.Refused (Full inserts)
       → IsAccepted m command × HasNoRoom sh s own t × (inserts ≡ (head_at sh s t).inserts)
   full_from inserts is =
-      let x = subst (λ r. IsTold m command r told.0) is told.1 in
+      let x = subst (λ r. IsTold m None command r told.0) is told.1 in
       let y = why (judged_err fault goes (Full (head_at sh s t).inserts) (Full inserts) (refused_is (insert_judged sh s own t (key_of row)) (Full inserts) is)) in
       (x.1, room y.0, sym y.1)
     where
@@ -184,18 +185,18 @@ module _ (sh : Shape) (s : Parts) (own : OwnKey) (t : ℕ) (row : Row) (m : Isol
 
       by_fault : (x : WriteFault) → insert_judged sh s own t (key_of row) ≡ Err x → reply_to_write (Err x) ≡ reply.Refused (Full inserts)
       by_fault (ConflictSession w) is =
-          let y = subst (λ r. IsTold m command (reply_to_write r) told.0) is told.1 in
+          let y = subst (λ r. IsTold m None command (reply_to_write r) told.0) is told.1 in
           let never : answer.ConflictSession w ≡ answer.Accepted = not_accepted m told.0 command (answer.ConflictSession w) y given.0 in cc
       by_fault (ConflictCommit k) is =
-          let y = subst (λ r. IsTold m command (reply_to_write r) told.0) is told.1 in
+          let y = subst (λ r. IsTold m None command (reply_to_write r) told.0) is told.1 in
           let never : answer.ConflictCommit k ≡ answer.Accepted = not_accepted m told.0 command (answer.ConflictCommit k) y given.0 in cc
       by_fault Exists is =
-          let y = subst (λ r. IsTold m command (reply_to_write r) told.0) is told.1 in
+          let y = subst (λ r. IsTold m None command (reply_to_write r) told.0) is told.1 in
           let never : answer.Exists ≡ answer.Accepted = not_accepted m told.0 command answer.Exists y given.0 in cc
       by_fault Missing is =
-          let y = subst (λ r. IsTold m command (reply_to_write r) told.0) is told.1 in
+          let y = subst (λ r. IsTold m None command (reply_to_write r) told.0) is told.1 in
           let never : answer.Missing ≡ answer.Accepted = not_accepted m told.0 command answer.Missing y given.0 in cc
-      by_fault (Freezing b g) is = let y = subst (λ r. IsTold m command (reply_to_write r) told.0) is told.1 in absurd y.0
+      by_fault (Freezing b g) is = let y = subst (λ r. IsTold m None command (reply_to_write r) told.0) is told.1 in absurd y.0
       by_fault (Full i) is = ap (λ n. reply.Refused (Full n)) ((full_from i (ap reply_to_write is)).2 ∙ sym given.2)
 
       go : (r : Result ℕ WriteFault) → insert_judged sh s own t (key_of row) ≡ r → reply_to_write (insert_judged sh s own t (key_of row)) ≡ reply.Refused (Full inserts)
@@ -233,7 +234,7 @@ frozen_by block (Sealed x) b g is = (sym (blocks block x b g is), ap Sealed (sta
 module _ (sh : Shape) (s : Parts) (own : OwnKey) (t : ℕ) (key : ℤ) (m : IsolationMachine)
     -- the command that changes the key's row, and what it is answered
     (what : Act) (no_insert : IsInsert what → ⊥)
-    (next : IsolationMachine) (told : IsTold m (command_of own.session what) (reply_to_write (change_judged sh s own t key)) next) where
+    (next : IsolationMachine) (told : IsTold m None (command_of own.session what) (reply_to_write (change_judged sh s own t key)) next) where
   -- The command to change the row, as the machine is asked it.
   abbrev change_command : Command
   change_command = command_of own.session what
@@ -254,7 +255,7 @@ module _ (sh : Shape) (s : Parts) (own : OwnKey) (t : ℕ) (key : ℤ) (m : Isol
   pub freezes_from : (b g : ℕ) → reply_to_write (change_judged sh s own t key) ≡ reply.Refused (Freezing b g)
       → IsAccepted m change_command × IsSealedIn sh s t key b g
   freezes_from b g is =
-      let x = subst (λ r. IsTold m change_command r next) is told in (
+      let x = subst (λ r. IsTold m None change_command r next) is told in (
         x.1,
         sealed here refl (no_freezing (newer_by (slot_at sh s t) (places_at sh s t key) own) (is_none (found sh s own t key)) frozen b g
             (why (judged_err change_fault here Missing (Freezing b g) (refused_is (change_judged sh s own t key) (Freezing b g) is)))),
@@ -285,18 +286,18 @@ module _ (sh : Shape) (s : Parts) (own : OwnKey) (t : ℕ) (key : ℤ) (m : Isol
 
       by_fault : (x : WriteFault) → change_judged sh s own t key ≡ Err x → reply_to_write (Err x) ≡ reply.Refused (Freezing b g)
       by_fault (ConflictSession w) is =
-          let y = subst (λ r. IsTold m change_command (reply_to_write r) next) is told in
+          let y = sym (plain m change_command) ∙ subst (λ r. IsTold m None change_command (reply_to_write r) next) is told in
           let never : answer.ConflictSession w ≡ answer.Accepted = not_accepted m next change_command (answer.ConflictSession w) y given.0 in cc
       by_fault (ConflictCommit k) is =
-          let y = subst (λ r. IsTold m change_command (reply_to_write r) next) is told in
+          let y = sym (plain m change_command) ∙ subst (λ r. IsTold m None change_command (reply_to_write r) next) is told in
           let never : answer.ConflictCommit k ≡ answer.Accepted = not_accepted m next change_command (answer.ConflictCommit k) y given.0 in cc
       by_fault Exists is =
-          let y = subst (λ r. IsTold m change_command (reply_to_write r) next) is told in
+          let y = sym (plain m change_command) ∙ subst (λ r. IsTold m None change_command (reply_to_write r) next) is told in
           let never : answer.Exists ≡ answer.Accepted = not_accepted m next change_command answer.Exists y given.0 in cc
       by_fault Missing is =
-          let y = subst (λ r. IsTold m change_command (reply_to_write r) next) is told in
+          let y = sym (plain m change_command) ∙ subst (λ r. IsTold m None change_command (reply_to_write r) next) is told in
           let never : answer.Missing ≡ answer.Accepted = not_accepted m next change_command answer.Missing y given.0 in cc
-      by_fault (Full i) is = let y = subst (λ r. IsTold m change_command (reply_to_write r) next) is told in absurd (no_insert y.0)
+      by_fault (Full i) is = let y = subst (λ r. IsTold m None change_command (reply_to_write r) next) is told in absurd (no_insert y.0)
       by_fault (Freezing b' g') is =
           let from = freezes_from b' g' (ap reply_to_write is) in
           let place : from.1.place ≡ given.1.place = same_Some from.1.place given.1.place (sym from.1.current ∙ given.1.current) in

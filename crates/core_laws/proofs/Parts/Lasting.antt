@@ -14,12 +14,13 @@ use Rattle.core_laws.proofs.Events.Still.{all_stay}
 use Rattle.event_spec.specs.declared.event.Event.TheVariants as event
 use Rattle.event_spec.specs.declared.event.MovePair.{MovePair}
 use Rattle.event_spec.specs.declared.reply.WriteFault.{WriteFault}
-use Rattle.event_spec.specs.Effects.{CoreEvent, at_both, after_change, after_insert, after_move, change_judged, changes_of, closed, effect, held_pairs, insert_judged, is_some_write, numbered, opened}
+use Rattle.event_spec.specs.Effects.{CoreEvent, at_both, after_change, after_insert, after_judged, after_move, change_judged, changes_of, closed, effect, held_pairs, insert_judged, is_some_write, numbered, opened, stale_in}
 use Rattle.event_spec.specs.Lawful.{IsLawful, IsOldest, transaction, writes_of}
 use Rattle.event_spec.specs.Parts.{Parts, Shape, nothing, names, desk_at, body_at, is_head}
 use Rattle.event_spec.specs.Sound.{Sound}
+use Rattle.isolation_spec.specs.declared.read.Read.{Read}
 use Rattle.core_laws.proofs.Following.Desks.{none_not}
-use Rattle.isolation_spec.specs.Contents.{key_of}
+use Rattle.isolation_spec.specs.Contents.{PlaceMap, key_of}
 use Rattle.core_laws.specs.Parts.Laws.{Learns, Outlives}
 use Rattle.core_laws.proofs.Sound.Calm.{all_index}
 use Rattle.txn_desk.proofs.LeastStart.{least_at_begin, least_at_end, least_at_tick}
@@ -53,9 +54,9 @@ module _ (sh : Shape) (s : Parts) (ok : Sound sh s) where
           (transaction_is sh s q lawful.0.0.0 ∙ ap (option_map (open_with (writes_of sh s q))) is))
 
   -- The end of a session, with a number taken or not, makes the oldest stamp no older.
-  commit_up : (wrote : Bool) (q : ℕ) → oldest_of (desk_at sh s) ≤ oldest_of (closed q (cond wrote (numbered (desk_at sh s)) (desk_at sh s)))
-  commit_up true q = least_at_end (desk_at sh s).newest ((desk_at sh s).newest + 1) (desk_at sh s).open_snapshots (q - 1) begun (omega arith)
-  commit_up false q = least_at_end (desk_at sh s).newest (desk_at sh s).newest (desk_at sh s).open_snapshots (q - 1) begun (omega arith)
+  commit_up : (writes : PlaceMap ℕ) (wrote : Bool) (q : ℕ) → oldest_of (desk_at sh s) ≤ oldest_of (closed q (cond wrote (numbered writes (desk_at sh s)) (desk_at sh s)))
+  commit_up writes true q = least_at_end (desk_at sh s).newest ((desk_at sh s).newest + 1) (desk_at sh s).open_snapshots (q - 1) begun (omega arith)
+  commit_up writes false q = least_at_end (desk_at sh s).newest (desk_at sh s).newest (desk_at sh s).open_snapshots (q - 1) begun (omega arith)
 
   -- An insert makes the oldest stamp no older.
   insert_up : (own : OwnKey) (t : ℕ) (row : Row) (r : Result ℕ WriteFault) → oldest_of (desk_at sh s) ≤ oldest_of ((after_insert sh s own t row r).desk (desk_at sh s))
@@ -85,8 +86,12 @@ module _ (sh : Shape) (s : Parts) (ok : Sound sh s) where
   event_up (event.Update own t row) lawful = change_up own t (λ old. change.Patch (differences 0 old row)) (change_judged sh s own t (key_of row))
   event_up (event.Delete own t key) lawful = change_up own t (λ old. change.Gone) (change_judged sh s own t key)
   event_up (event.Read own t b) lawful = omega arith
-  event_up (event.Commit own) lawful = commit_up (is_some_write own.writes) own.session
-  event_up (event.Abort own) lawful = commit_up false own.session
+  event_up (event.Commit own reads) lawful = judged (stale_in sh s own reads)
+    where
+      judged : (found : Option (Read × ℕ)) → oldest_of (desk_at sh s) ≤ oldest_of ((after_judged sh s own found).desk (desk_at sh s))
+      judged None = commit_up own.writes (is_some_write own.writes) own.session
+      judged (Some stale) = omega arith
+  event_up (event.Abort own) lawful = commit_up own.writes false own.session
   event_up event.Oldest lawful = omega arith
   event_up (event.Observe t b) lawful = omega arith
   event_up (event.Prune t b oldest) lawful = omega arith
@@ -119,7 +124,7 @@ learns sh (event.Insert own t row) oldest s teaches = absurd teaches
 learns sh (event.Update own t row) oldest s teaches = absurd teaches
 learns sh (event.Delete own t key) oldest s teaches = absurd teaches
 learns sh (event.Read own t b) oldest s teaches = absurd teaches
-learns sh (event.Commit own) oldest s teaches = absurd teaches
+learns sh (event.Commit own reads) oldest s teaches = absurd teaches
 learns sh (event.Abort own) oldest s teaches = absurd teaches
 learns sh event.Oldest oldest s teaches =
     let is : oldest_of (desk_at sh (effect sh s event.Oldest)) ≡ oldest_of (desk_at sh s) = ap (λ parts. oldest_of (desk_at sh parts)) (all_stay (names sh) s) in

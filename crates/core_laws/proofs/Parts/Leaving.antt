@@ -25,15 +25,16 @@ use Rattle.event_spec.specs.declared.own.OwnTransaction.{OwnTransaction}
 use Rattle.event_spec.specs.declared.part.Part.TheVariants as part
 use Rattle.event_spec.specs.declared.reply.WriteFault.{WriteFault}
 use Rattle.event_spec.specs.declared.reply.WriteFault.TheVariants.{Exists, Full, Missing}
-use Rattle.event_spec.specs.Effects.{CoreEvent, after_change, after_commit, after_insert, after_move, at_both, change_judged, changes_of, effect, found, held_pairs, insert_judged, is_some_write, numbered}
+use Rattle.event_spec.specs.Effects.{CoreEvent, after_change, after_commit, after_insert, after_judged, after_move, at_both, change_judged, changes_of, effect, found, held_pairs, insert_judged, is_some_write, numbered, stale_in}
 use Rattle.event_spec.specs.Judged.{current_place, differences, fault_of, first_at, freezing_of, newer_by, next_place}
 use Rattle.event_spec.specs.Lawful.{Among, IsLawful, IsThawed, session_of, slot_key, transaction, write_of, write_on, writes_of}
 use Rattle.event_spec.specs.Parts.{Changes, Parts, Shape, BodyOf, names, nothing, each_changed, below, blocks_of, body_at, body_from, desk_at, head_at, is_head, part_named, places_at, slot_at, slots_of}
 use Rattle.event_spec.specs.Sound.{IsShape, Sound}
+use Rattle.isolation_spec.specs.declared.read.Read.{Read}
 use Rattle.core_laws.proofs.Following.Desks.{closed_other, none_not, opened_other, same_number}
 use Rattle.core_laws.proofs.Following.Firsts.{other_is}
 use Rattle.core_laws.proofs.Following.Writes.{apart as places_apart}
-use Rattle.isolation_spec.specs.Contents.{key_of}
+use Rattle.isolation_spec.specs.Contents.{PlaceMap, key_of}
 use Rattle.core_laws.proofs.Parts.MoveLeaves.{move_writes}
 use Rattle.core_laws.specs.Parts.Laws.{Leaves}
 use Rattle.core_laws.proofs.Slots.Endings.{committed_other, committed_writer, rolled_back_other}
@@ -275,7 +276,7 @@ module _ (sh : Shape) (s : Parts) (shape : IsShape sh) (ok : Sound sh s) (q : �
           (met_none sh s ok own t key p clear.0 (current_among (slot_at sh s t) (places_at sh s t key) p clear.1)) u x)
 
   -- Another's commit leaves the session's write on each slot.
-  commit_writes : (own : OwnTransaction) → q ≢ own.session → (t p : ℕ) → write_on q t p (slot_at sh (effect sh s (event.Commit own)) t p) ≡ write_on q t p (slot_at sh s t p)
+  commit_writes : (own : OwnTransaction) → q ≢ own.session → (t p : ℕ) → write_on q t p (slot_at sh (each_changed (after_commit sh s own) (names sh) s) t p) ≡ write_on q t p (slot_at sh s t p)
   commit_writes own ne t p = by_body (after_commit sh s own) t p (at (is_some_write own.writes))
     where
       at : (y : Bool)
@@ -348,7 +349,11 @@ module _ (sh : Shape) (s : Parts) (shape : IsShape sh) (ok : Sound sh s) (q : �
   event_writes (event.Update own t row) lawful ne = change_writes own t (key_of row) (λ old. change.Patch (differences 0 old row)) lawful.1.2 (other own.session ne)
   event_writes (event.Delete own t key) lawful ne = change_writes own t key (λ old. change.Gone) lawful.1.1 (other own.session ne)
   event_writes (event.Read own t b) lawful ne = same_parts
-  event_writes (event.Commit own) lawful ne = commit_writes own (other own.session ne)
+  event_writes (event.Commit own reads) lawful ne = judged (stale_in sh s own reads)
+    where
+      judged : (found : Option (Read × ℕ)) (t p : ℕ) → write_on q t p (slot_at sh (each_changed (after_judged sh s own found) (names sh) s) t p) ≡ write_on q t p (slot_at sh s t p)
+      judged None = commit_writes own (other own.session ne)
+      judged (Some stale) = same_parts
   event_writes (event.Abort own) lawful ne = abort_writes own (other own.session ne)
   event_writes event.Oldest lawful ne = same_parts
   event_writes (event.Observe t b) lawful ne = phase_writes t b (observed (is_head sh s t b)) (λ x j. refl)
@@ -382,9 +387,9 @@ module _ (sh : Shape) (s : Parts) (shape : IsShape sh) (ok : Sound sh s) (q : �
   seal_snapshot false t b = refl
 
   -- A commit's number, be it taken or not, leaves the session's snapshot.
-  commit_snapshot : (wrote : Bool) → snapshot_of (cond wrote (numbered (desk_at sh s)) (desk_at sh s)) q ≡ snapshot_of (desk_at sh s) q
-  commit_snapshot true = refl
-  commit_snapshot false = refl
+  commit_snapshot : (writes : PlaceMap ℕ) (wrote : Bool) → snapshot_of (cond wrote (numbered writes (desk_at sh s)) (desk_at sh s)) q ≡ snapshot_of (desk_at sh s) q
+  commit_snapshot writes true = refl
+  commit_snapshot writes false = refl
 
   -- A lawful event of none or of another session leaves the session's snapshot.
   event_snapshot : (e : CoreEvent) → 1 ≤ q → IsLawful sh e s → session_of e ≢ Some q → snapshot_of ((changes_of sh s e).desk (desk_at sh s)) q ≡ snapshot_of (desk_at sh s) q
@@ -394,9 +399,13 @@ module _ (sh : Shape) (s : Parts) (shape : IsShape sh) (ok : Sound sh s) (q : �
   event_snapshot (event.Update own t row) some lawful ne = change_snapshot own t (λ old. change.Patch (differences 0 old row)) (change_judged sh s own t (key_of row))
   event_snapshot (event.Delete own t key) some lawful ne = change_snapshot own t (λ old. change.Gone) (change_judged sh s own t key)
   event_snapshot (event.Read own t b) some lawful ne = refl
-  event_snapshot (event.Commit own) some lawful ne =
-      closed_other own.session q (cond (is_some_write own.writes) (numbered (desk_at sh s)) (desk_at sh s)) lawful.0.0.0 some (other own.session ne)
-      ∙ commit_snapshot (is_some_write own.writes)
+  event_snapshot (event.Commit own reads) some lawful ne = judged (stale_in sh s own reads)
+    where
+      judged : (found : Option (Read × ℕ)) → snapshot_of ((after_judged sh s own found).desk (desk_at sh s)) q ≡ snapshot_of (desk_at sh s) q
+      judged None =
+          closed_other own.session q (cond (is_some_write own.writes) (numbered own.writes (desk_at sh s)) (desk_at sh s)) lawful.0.0.0 some (other own.session ne)
+          ∙ commit_snapshot own.writes (is_some_write own.writes)
+      judged (Some stale) = refl
   event_snapshot (event.Abort own) some lawful ne = closed_other own.session q (desk_at sh s) lawful.0.0.0 some (other own.session ne)
   event_snapshot event.Oldest some lawful ne = refl
   event_snapshot (event.Observe t b) some lawful ne = refl

@@ -21,7 +21,7 @@ use Rattle.event_spec.specs.Parts.{Parts, Shape, body_at, desk_at, places_at, sl
 use Rattle.event_spec.specs.Replies.{is_elsewhere, row_read, rows_read}
 use Rattle.event_spec.specs.Sound.{IsShape, Sound}
 use Rattle.core_laws.proofs.Following.Finds.{none_own, same_view}
-use Rattle.core_laws.proofs.Following.Overlays.{over}
+use Rattle.isolation_laws.proofs.Overlays.{over}
 use Rattle.core_laws.proofs.Following.Sessions as sessions
 use Rattle.core_laws.proofs.Following.Sessions.{option_cases}
 use Rattle.core_laws.specs.Following.Owned.{HasOpen, OwnSlot}

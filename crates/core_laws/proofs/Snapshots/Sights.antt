@@ -24,13 +24,14 @@ use Rattle.event_spec.specs.declared.own.OwnTransaction.{OwnTransaction}
 use Rattle.event_spec.specs.declared.part.Part.TheVariants as part
 use Rattle.event_spec.specs.declared.reply.WriteFault.{WriteFault}
 use Rattle.event_spec.specs.declared.reply.WriteFault.TheVariants.{Exists, Full}
-use Rattle.event_spec.specs.Effects.{CoreEvent, after_change, after_commit, after_insert, at_both, change_judged, changes_of, effect, found, insert_judged, is_some_write}
+use Rattle.event_spec.specs.Effects.{CoreEvent, after_change, after_commit, after_insert, after_judged, at_both, change_judged, changes_of, effect, found, insert_judged, is_some_write, stale_in}
 use Rattle.event_spec.specs.Judged.{differences, fault_of, newer_by, next_place}
 use Rattle.event_spec.specs.Lawful.{IsLawful, IsThawed, session_of}
 use Rattle.event_spec.specs.Parts.{Changes, Parts, Shape, BodyOf, names, nothing, each_changed, body_at, body_from, desk_at, head_at, is_head, part_named, places_at, slot_at, slots_of}
 use Rattle.event_spec.specs.Replay.{columns_in}
 use Rattle.event_spec.specs.SlotSound.{VersionsFit}
 use Rattle.event_spec.specs.Sound.{IsShape, Sound}
+use Rattle.isolation_spec.specs.declared.read.Read.{Read}
 use Rattle.core_laws.proofs.Following.Writes.{apart as places_apart}
 use Rattle.core_laws.specs.Following.Owned.{HasOpen}
 use Rattle.isolation_spec.specs.Contents.{key_of}
@@ -164,7 +165,7 @@ module _ (sh : Shape) (s : Parts) (shape : IsShape sh) (ok : Sound sh s) (q : �
   -- ---- ends and pruning
 
   -- Another's commit leaves what the session sees of each slot.
-  commit_seen : (own : OwnTransaction) → q ≢ own.session → (t p : ℕ) → seen (slot_at sh (effect sh s (event.Commit own)) t p) snapshot.stamp q ≡ seen (slot_at sh s t p) snapshot.stamp q
+  commit_seen : (own : OwnTransaction) → q ≢ own.session → (t p : ℕ) → seen (slot_at sh (each_changed (after_commit sh s own) (names sh) s) t p) snapshot.stamp q ≡ seen (slot_at sh s t p) snapshot.stamp q
   commit_seen own ne = by_body (after_commit sh s own) (λ t b j. at t b j (is_some_write own.writes))
     where
       at : (t b j : ℕ) (y : Bool)
@@ -237,7 +238,11 @@ module _ (sh : Shape) (s : Parts) (shape : IsShape sh) (ok : Sound sh s) (q : �
       ∙ sym (fits_length (columns_in sh t) row (fits_columns sh t row lawful.1.0 lawful.1.1))))
   event_seen (event.Delete own t key) lawful ne = change_seen own t key (λ old. change.Gone) lawful.1.1 (other own.session ne) (λ p old is. gone_undone (slot_at sh s t p))
   event_seen (event.Read own t b) lawful ne = same_parts
-  event_seen (event.Commit own) lawful ne = commit_seen own (other own.session ne)
+  event_seen (event.Commit own reads) lawful ne = judged (stale_in sh s own reads)
+    where
+      judged : (found : Option (Read × ℕ)) (t p : ℕ) → seen (slot_at sh (each_changed (after_judged sh s own found) (names sh) s) t p) snapshot.stamp q ≡ seen (slot_at sh s t p) snapshot.stamp q
+      judged None = commit_seen own (other own.session ne)
+      judged (Some stale) = same_parts
   event_seen (event.Abort own) lawful ne = abort_seen own (other own.session ne)
   event_seen event.Oldest lawful ne = same_parts
   event_seen (event.Observe t b) lawful ne = phase_seen t b (observed (is_head sh s t b)) (λ x j. refl)

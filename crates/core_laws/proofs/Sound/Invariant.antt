@@ -1,13 +1,14 @@
 -- Each lawful event keeps the invariant.
-use Rattle.std.proofs.Common.{◌-◌, Some}
+use Rattle.std.proofs.Common.{◌-◌, ℕ, Option, None, Some}
 use Rattle.std.proofs.lemmas.List.{length-set}
 use Rattle.core_laws.proofs.Events.Naming.{follows_machine}
 use Rattle.core_laws.proofs.Events.Steps.{steps}
 use Rattle.event_spec.specs.declared.event.Event.TheVariants as event
-use Rattle.event_spec.specs.Effects.{CoreEvent, effect, opened}
+use Rattle.event_spec.specs.Effects.{CoreEvent, after_judged, effect, opened, stale_in}
 use Rattle.event_spec.specs.Lawful.{IsLawful}
-use Rattle.event_spec.specs.Parts.{Parts, Shape}
+use Rattle.event_spec.specs.Parts.{Parts, Shape, each_changed, names}
 use Rattle.event_spec.specs.Sound.{IsShape, Sound}
+use Rattle.isolation_spec.specs.declared.read.Read.{Read}
 use Rattle.core_laws.proofs.Sound.Keeps.{abort_keeps, commit_keeps, delete_keeps, desk_keeps, image_keeps, insert_keeps, nothing_keeps, observe_keeps, prune_keeps, seal_keeps, shaped, thaw_keeps, update_keeps}
 use Rattle.core_laws.proofs.Sound.Moves.{move_keeps}
 use Rattle.core_laws.specs.Sound.Laws.{Keeps}
@@ -22,7 +23,11 @@ module _ (sh : Shape) (s : Parts) (shape : IsShape sh) (ok : Sound sh s) where
   keeps_shaped (event.Update own t row) lawful = update_keeps sh s shape ok own t row lawful
   keeps_shaped (event.Delete own t key) lawful = delete_keeps sh s shape ok own t key lawful
   keeps_shaped (event.Read own t b) lawful = nothing_keeps sh s (shaped sh s ok)
-  keeps_shaped (event.Commit own) lawful = commit_keeps sh s shape ok own
+  keeps_shaped (event.Commit own reads) lawful = judged (stale_in sh s own reads)
+    where
+      judged : (found : Option (Read × ℕ)) → Shaped sh (each_changed (after_judged sh s own found) (names sh) s)
+      judged None = commit_keeps sh s shape ok own
+      judged (Some stale) = nothing_keeps sh s (shaped sh s ok)
   keeps_shaped (event.Abort own) lawful = abort_keeps sh s shape ok own
   keeps_shaped event.Oldest lawful = nothing_keeps sh s (shaped sh s ok)
   keeps_shaped (event.Observe t b) lawful = observe_keeps sh s shape ok t b lawful.1

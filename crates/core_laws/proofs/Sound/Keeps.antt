@@ -178,11 +178,11 @@ module _ (sh : Shape) (s : Parts) (shape : IsShape sh) (ok : Sound sh s) where
   -- ---- ends
 
   -- a commit keeps what holds of heads and bodies
-  pub commit_keeps : (own : OwnTransaction) → Shaped sh (effect sh s (event.Commit own))
+  pub commit_keeps : (own : OwnTransaction) → Shaped sh (each_changed (after_commit sh s own) (names sh) s)
   commit_keeps own = calm_keeps sh s k (after_commit sh s own) (λ t h. refl) (λ t b has. at t b has (is_some_write own.writes))
-      (λ desk. length-set (cond (is_some_write own.writes) (numbered desk) desk).open_snapshots (own.session - 1) None ∙ same desk (is_some_write own.writes))
+      (λ desk. length-set (cond (is_some_write own.writes) (numbered own.writes desk) desk).open_snapshots (own.session - 1) None ∙ same desk (is_some_write own.writes))
     where
-      same : (desk : DeskState) (y : Bool) → length (cond y (numbered desk) desk).open_snapshots ≡ length desk.open_snapshots
+      same : (desk : DeskState) (y : Bool) → length (cond y (numbered own.writes desk) desk).open_snapshots ≡ length desk.open_snapshots
       same desk true = refl
       same desk false = refl
 

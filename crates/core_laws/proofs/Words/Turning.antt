@@ -22,11 +22,12 @@ use Rattle.event_spec.specs.declared.event.Event.TheVariants as event
 use Rattle.event_spec.specs.declared.event.MovePair.{MovePair}
 use Rattle.event_spec.specs.declared.own.OwnKey.{OwnKey}
 use Rattle.event_spec.specs.declared.reply.WriteFault.{WriteFault}
-use Rattle.event_spec.specs.Effects.{CoreEvent, after_change, after_insert, after_move, at_both, change_judged, changes_of, held_pairs, holds, insert_judged, is_some_write, moved_row}
+use Rattle.event_spec.specs.Effects.{CoreEvent, after_change, after_commit, after_insert, after_judged, after_move, at_both, change_judged, changes_of, held_pairs, holds, insert_judged, is_some_write, moved_row, stale_in}
 use Rattle.event_spec.specs.Judged.{differences}
 use Rattle.event_spec.specs.Lawful.{Among, HasBlock, IsLawful, IsThawed}
 use Rattle.event_spec.specs.Parts.{BodyOf, Name, Parts, Shape, nothing, body_at, desk_at, is_head, names, slot_at}
 use Rattle.event_spec.specs.Sound.{IsShape, Sound}
+use Rattle.isolation_spec.specs.declared.read.Read.{Read}
 use Rattle.hall_rule.specs.Heads.{Turns, TurnsOn}
 use Rattle.isolation_spec.specs.Contents.{key_of}
 
@@ -66,11 +67,15 @@ module _ (sh : Shape) (s : Parts) (t b : ℕ) (x : Body) where
   body_still (event.Update own u row) still = absurd (true_false still)
   body_still (event.Delete own u key) still = absurd (true_false still)
   body_still (event.Read own u y) still = refl
-  body_still (event.Commit own) still = go (is_some_write own.writes)
+  body_still (event.Commit own reads) still = judged (stale_in sh s own reads)
     where
       go : (wrote : Bool) → head_by ((cond wrote (committed_in own.session ((desk_at sh s).newest + 1) ((desk_at sh s).commits + 1)) (λ (body : Body). body)) x) ≡ head_by x
       go true = refl
       go false = refl
+
+      judged : (found : Option (Read × ℕ)) → head_by ((after_judged sh s own found).body t b x) ≡ head_by x
+      judged None = go (is_some_write own.writes)
+      judged (Some stale) = refl
   body_still (event.Abort own) still = absurd (true_false still)
   body_still event.Oldest still = refl
   body_still (event.Observe u y) still = absurd (true_false still)
@@ -201,7 +206,12 @@ module _ (sh : Shape) (s : Parts) (shape : IsShape sh) (ok : Sound sh s) (t b : 
     body_turns (event.Update own u row) lawful = inr (not_none k, turned_warm x (made (event.Update own u row)) small (change_warms own u (key_of row) (λ old. change.Patch (differences 0 old row)) lawful.1.2))
     body_turns (event.Delete own u key) lawful = inr (not_none k, turned_warm x (made (event.Delete own u key)) small (change_warms own u key (λ old. change.Gone) lawful.1.1))
     body_turns (event.Read own u y) lawful = inr (not_none k, inl refl)
-    body_turns (event.Commit own) lawful = inr (not_none k, turned_warm x (made (event.Commit own)) small (commit_warms (is_some_write own.writes) own.session ((desk_at sh s).newest + 1) ((desk_at sh s).commits + 1)))
+    body_turns (event.Commit own reads) lawful = inr (not_none k, judged (stale_in sh s own reads))
+      where
+        judged : (found : Option (Read × ℕ))
+            → (head_by ((after_judged sh s own found).body t b x) ≡ head_by x) ⊎ TurnsOn (head_by x) (head_by ((after_judged sh s own found).body t b x))
+        judged None = turned_warm x ((after_commit sh s own).body t b x) small (commit_warms (is_some_write own.writes) own.session ((desk_at sh s).newest + 1) ((desk_at sh s).commits + 1))
+        judged (Some stale) = inl refl
     body_turns (event.Abort own) lawful = inr (not_none k, turned_warm x (made (event.Abort own)) small (abort_warms own.session))
     body_turns event.Oldest lawful = inr (not_none k, inl refl)
     body_turns (event.Observe u y) lawful = inr (not_none k, at_one Goes u y (observed (is_head sh s u y)) t b x (λ e f. turned_observed (is_head sh s u y) x small) (λ away. inl refl))

@@ -1,5 +1,5 @@
 -- What each event is to the snapshot-isolation machine.
-use Rattle.std.specs.Prelude.{◌≡◌, ℕ, ℤ, Option, None, Some, IsSomeAnd, length}
+use Rattle.std.specs.Prelude.{◌≡◌, ℕ, ℤ, false, Option, None, Some, IsSomeAnd, length}
 use Rattle.core_laws.specs.Events.Named.{FollowsMachine}
 use Rattle.event_spec.specs.declared.event.Event.TheVariants as event
 use Rattle.event_spec.specs.declared.reply.Reply.TheVariants as reply
@@ -7,7 +7,7 @@ use Rattle.event_spec.specs.declared.reply.WriteFault.{WriteFault}
 use Rattle.event_spec.specs.declared.reply.WriteFault.TheVariants as fault
 use Rattle.event_spec.specs.Effects.{CoreEvent, effect}
 use Rattle.event_spec.specs.declared.own.OwnTransaction.{OwnTransaction}
-use Rattle.event_spec.specs.Lawful.{IsLawful, OwnsAll}
+use Rattle.event_spec.specs.Lawful.{IsLawful, OwnsAll, reads_handed}
 use Rattle.event_spec.specs.Parts.{Parts, Shape, desk_at, places_at, slot_at}
 use Rattle.event_spec.specs.Replies.{CoreReply, reply_to}
 use Rattle.event_spec.specs.Sound.{Sound, IsShape}
@@ -18,6 +18,7 @@ use Rattle.isolation_spec.specs.declared.command.Act.TheVariants as act
 use Rattle.isolation_spec.specs.declared.command.Answer.TheVariants as answer
 use Rattle.isolation_spec.specs.declared.command.Command.{Command}
 use Rattle.isolation_spec.specs.Machine.{IsolationMachine}
+use Rattle.isolation_spec.specs.Reads.{ReadSet}
 use Rattle.isolation_spec.specs.Store.{Outcome, Allows}
 use Rattle.isolation_spec.specs.Store as store
 
@@ -42,6 +43,7 @@ outcome_of (reply.Refused refusal) = Some (outcome_of_fault refusal)
 outcome_of (reply.Rows rows) = None
 outcome_of (reply.Shared rows) = None
 outcome_of (reply.Committed number) = Some (store.Answered (answer.Committed number))
+outcome_of (reply.Stale what number) = Some (store.Answered (answer.Stale what number))
 outcome_of reply.Aborted = Some (store.Answered answer.Aborted)
 outcome_of (reply.Oldest oldest) = None
 outcome_of (reply.Turned turned) = None
@@ -55,15 +57,16 @@ outcome_of reply.NoSeal = None
 outcome_of reply.Thawed = None
 outcome_of reply.Memory = Some store.Memory
 
--- The command that an event is to the machine. A read of one block is none, nor is upkeep.
+-- The command that an event is to the machine, to which it is all one whether a transaction that
+-- begins is checked. A read of one block is none, nor is upkeep.
 abbrev pub command_in : CoreEvent → Option Command
-command_in (event.Begin session) = Some (command_of session act.Begin)
+command_in (event.Begin session) = Some (command_of session (act.Begin false))
 command_in (event.Get own table key) = Some (command_of own.session (act.Get table key))
 command_in (event.Insert own table row) = Some (command_of own.session (act.Insert table row))
 command_in (event.Update own table row) = Some (command_of own.session (act.Update table row))
 command_in (event.Delete own table key) = Some (command_of own.session (act.Delete table key))
 command_in (event.Read own table block) = None
-command_in (event.Commit own) = Some (command_of own.session act.Commit)
+command_in (event.Commit own reads) = Some (command_of own.session act.Commit)
 command_in (event.Abort own) = Some (command_of own.session act.Abort)
 command_in event.Oldest = None
 command_in (event.Observe table block) = None
@@ -76,23 +79,25 @@ command_in (event.Thaw table block) = None
 
 -- ---- what an event is to the machine
 
--- A reply to a command is one that a store over the machine may give, which leaves the machine like
--- this.
-abbrev pub IsTold : IsolationMachine → Command → CoreReply → IsolationMachine → Type 0
-IsTold machine command said next = IsSomeAnd (outcome_of said)
-    (λ outcome. Allows machine command outcome next)
+-- A reply to a command, with which these reads are handed in, is one that a store over the machine
+-- may give, which leaves the machine like this.
+abbrev pub IsTold : IsolationMachine → Option ReadSet → Command → CoreReply → IsolationMachine
+    → Type 0
+IsTold machine reads command said next = IsSomeAnd (outcome_of said)
+    (λ outcome. Allows machine reads command outcome next)
 
 -- A command's event is answered by the machine, and any other leaves it as it is.
-abbrev pub IsStep : Option Command → IsolationMachine → CoreReply → IsolationMachine → Type 0
-IsStep None machine said next = next ≡ machine
-IsStep (Some command) machine said next = IsTold machine command said next
+abbrev pub IsStep : Option Command → Option ReadSet → IsolationMachine → CoreReply
+    → IsolationMachine → Type 0
+IsStep None reads machine said next = next ≡ machine
+IsStep (Some command) reads machine said next = IsTold machine reads command said next
 
 -- The event answers a command as the machine may, and the parts after it follow the machine after
 -- it.
 abbrev pub Serves : Shape → Parts → CoreEvent → Command → Type 0
 Serves shape parts event command = (machine : IsolationMachine) → FollowsMachine shape parts machine
     → (next : IsolationMachine)
-    × IsTold machine command (reply_to shape parts event) next
+    × IsTold machine (reads_handed event) command (reply_to shape parts event) next
     × FollowsMachine shape (effect shape parts event) next
 
 -- An event keeps how many parts there are.
@@ -107,7 +112,7 @@ Steps = (shape : Shape) (parts : Parts) (event : CoreEvent) → IsShape shape �
     → IsLawful shape event parts
     → (machine : IsolationMachine) → FollowsMachine shape parts machine
     → (next : IsolationMachine)
-    × IsStep (command_in event) machine (reply_to shape parts event) next
+    × IsStep (command_in event) (reads_handed event) machine (reply_to shape parts event) next
     × FollowsMachine shape (effect shape parts event) next
 
 -- In a sound state the transaction that an event is handed has the slots on which its session's

@@ -1,8 +1,8 @@
 -- What is found and met of a key, and what each change keeps, by the snapshot-isolation machine.
-use Rattle.std.specs.Prelude.{◌≡◌, ℕ, ◌+◌, ◌<◌, ◌≤◌, ℤ, [], ◌∷◌, Option, None, Some}
+use Rattle.std.specs.Prelude.{◌≡◌, ℕ, ◌+◌, ◌<◌, ◌≤◌, ℤ, false, [], ◌∷◌, Option, None, Some}
 use Rattle.block_spec.specs.declared.change.Change.{Change}
 use Rattle.block_spec.specs.Slots.{Row, row_after, committed, rolled_back}
-use Rattle.event_spec.specs.Effects.{opened, closed, numbered}
+use Rattle.event_spec.specs.Effects.{opened, closed, numbered, writes_table}
 use Rattle.event_spec.specs.Follows.{Follows, IsLive}
 use Rattle.event_spec.specs.Judged.{found_by, newer_by}
 use Rattle.event_spec.specs.Lawful.{Among}
@@ -14,10 +14,12 @@ use Rattle.isolation_spec.specs.declared.command.Act.TheVariants as act
 use Rattle.isolation_spec.specs.declared.command.Answer.{Answer}
 use Rattle.isolation_spec.specs.declared.command.Answer.TheVariants as answer
 use Rattle.isolation_spec.specs.declared.command.Command.{Command}
-use Rattle.isolation_spec.specs.Contents.{WriteSet, at_place, place_at}
+use Rattle.isolation_spec.specs.Contents.{PlaceMap, WriteSet, at_place, place_at}
 use Rattle.isolation_spec.specs.declared.place.Place.{Place}
+use Rattle.isolation_spec.specs.declared.read.Read.TheVariants as read
 use Rattle.isolation_spec.specs.Machine.{IsolationMachine, Transaction, transaction_of, seen_rows}
 use Rattle.isolation_spec.specs.Machine.{conflict_of, step, with_own}
+use Rattle.isolation_spec.specs.Reads.{meets}
 use Rattle.txn_desk.specs.declared.Snapshot.{Snapshot}
 use Rattle.txn_desk.specs.Desk.{DeskState}
 use Rattle.txn_desk.specs.Oldest.{HasPass, snapshot_of}
@@ -62,7 +64,7 @@ abbrev pub BeginFollows : Type 0
 BeginFollows = (slot : SlotMap) (places : CandidateMap) (desk : DeskState)
     (machine : IsolationMachine) (session : ℕ)
     → Follows slot places desk machine → HasPass desk session → snapshot_of desk session ≡ None
-    → Follows slot places (opened session desk) (machine_after machine session act.Begin)
+    → Follows slot places (opened session desk) (machine_after machine session (act.Begin false))
 
 -- A write that the session may make enters the machine's own.
 abbrev pub WriteFollows : Type 0
@@ -75,18 +77,20 @@ WriteFollows = (slot after : SlotMap) (places added : CandidateMap) (desk : Desk
     → Follows after added desk (with_own session (place_at table key)
     (row_after (slot table place).row change) machine)
 
--- A commit with writes gives them the next stamp and number.
+-- A commit with writes gives them the next stamp and number, and is the last that wrote their
+-- tables.
 abbrev pub CommitFollows : Type 0
 CommitFollows = (slot : SlotMap) (places : CandidateMap) (desk : DeskState)
     (machine : IsolationMachine)
     (session : ℕ) (snapshot : Snapshot) (open' : Transaction) (first : Place × Option Row)
-    (rest : WriteSet)
+    (rest : WriteSet) (writes : PlaceMap ℕ)
     → Follows slot places desk machine → HasOpen desk session snapshot
     → transaction_of session machine ≡ Some open' → open'.own ≡ first ∷ rest
+    → ((table : ℕ) → writes_table writes table ≡ meets (read.Table table) open'.own)
     → Follows
     (λ table place. committed session (desk.newest + 1) (desk.commits + 1) (slot table place))
     places
-    (closed session (numbered desk))
+    (closed session (numbered writes desk))
     (machine_after machine session act.Commit)
 
 -- A commit without writes closes the session.

@@ -11,7 +11,7 @@ use Rattle.event_spec.specs.declared.own.OwnKey.{OwnKey}
 use Rattle.event_spec.specs.declared.reply.Reply.TheVariants as reply
 use Rattle.event_spec.specs.declared.reply.WriteFault.TheVariants as fault
 use Rattle.event_spec.specs.Judged.{current_place}
-use Rattle.event_spec.specs.Lawful.{HasBlock, IsLawful}
+use Rattle.event_spec.specs.Lawful.{HasBlock, IsLawful, reads_handed}
 use Rattle.event_spec.specs.Parts.{Parts, Shape, body_at, head_at, places_at, slot_at, slots_of}
 use Rattle.event_spec.specs.Replay.{IsLawfulLog, Made, after, opening, replay, reply_after}
 use Rattle.event_spec.specs.Replies.{reply_to}
@@ -37,7 +37,8 @@ Reaches = (shape : Shape) (log : List Made) → IsShape shape → IsLawfulLog sh
 abbrev pub IsAnsweredFrom : Shape → Parts → IsolationMachine → List Made → Type 0
 IsAnsweredFrom shape parts before [] = ⊤
 IsAnsweredFrom shape parts before (made ∷ log) = (next : IsolationMachine)
-    × IsStep (command_in made.event) before (reply_after shape parts made) next
+    × IsStep (command_in made.event) (reads_handed made.event) before
+    (reply_after shape parts made) next
     × IsAnsweredFrom shape (after shape parts made) next log
 
 -- The replies of a lawful log to its sessions' commands are the machine's, on the log without the

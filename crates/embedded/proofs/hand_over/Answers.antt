@@ -1,10 +1,12 @@
-use Rattle.std.proofs.Common.{[], sym, subst, ◌∙◌, arith}
+use Rattle.std.proofs.Common.{ℕ, [], Option, sym, subst, ◌∙◌, arith}
+use Rattle.std.specs.Prelude.{Ok}
 use Rattle.std.specs.Int.{w64}
 use Rattle.std.proofs.lemmas.Int.{to_z-of_z}
 use Rattle.isolation_spec.specs.Contents.{place_of}
 use Rattle.shared_store.specs.Open.{Commits, commits_seen}
 use Rattle.embedded.proofs.Rooms.{told_done, told_memory}
 use Rattle.embedded.proofs.Handing.{alone, begins, found_there, hands, numbered, only_commit, opens, own_read}
+use Rattle.embedded.proofs.Plain.{plain_begun, plain_found}
 use Rattle.embedded.proofs.hand_over.Goals as goal
 
 pub returns-in_err-insert-clause-refused : goal.returns-in_err-insert-clause-refused
@@ -26,13 +28,21 @@ commit-requires-clause-busy g c =
     let put = c.in_ok-insert.ensures.writes (commits_seen st c.begin.new.session) [] begun.is_open in
     (found_there st c.insert.new.session c.get.new.session c.args.table _ c.args.row c.in_ok-own.own (c.requires.key ∙ sym (to_z-of_z w64 c.args.key c.ranges.key)) c.in_ok-own.ensures.finds (commits_seen st c.begin.new.session) (alone (place_of c.args.table c.args.row) c.args.row) put).0.busy
 
+pub unwrap-stood-requires : goal.unwrap-stood-requires
+unwrap-stood-requires g c =
+    c.commit.ensures.plain
+    (plain_found c.insert.new.session c.get.new.session c.args.table _ c.in_ok-own.own
+    (c.in_ok-insert.ensures.answers.keeps ∙ plain_begun c.args.one.now c.begin.new.session c.begin.result c.unwrap.result c.unwrap.ensures c.begin.ensures.answers.keeps)
+    c.in_ok-own.ensures.answers.keeps)
+
 pub unwrap-committed-requires : goal.unwrap-committed-requires
 unwrap-committed-requires g c =
     let st = c.args.store.now in
     let begun = opens st c.args.one.now c.begin.new.session c.begin.result c.unwrap.result c.unwrap.ensures c.begin.ensures.opens in
     let put = c.in_ok-insert.ensures.writes (commits_seen st c.begin.new.session) [] begun.is_open in
     let found = found_there st c.insert.new.session c.get.new.session c.args.table _ c.args.row c.in_ok-own.own (c.requires.key ∙ sym (to_z-of_z w64 c.args.key c.ranges.key)) c.in_ok-own.ensures.finds (commits_seen st c.begin.new.session) (alone (place_of c.args.table c.args.row) c.args.row) put in
-    numbered st (place_of c.args.table c.args.row) c.args.row c.get.new.session c.commit.new.session (commits_seen st c.begin.new.session) c.commit.result found.0 c.commit.ensures.commits
+    numbered st (place_of c.args.table c.args.row) c.args.row c.get.new.session c.commit.new.session (commits_seen st c.begin.new.session) c.unwrap-stood.result found.0
+    (subst (Commits st c.get.new.session c.commit.new.session) c.unwrap-stood.ensures c.commit.ensures.commits)
 
 pub unwrap-sees-requires : goal.unwrap-sees-requires
 unwrap-sees-requires g c =
@@ -55,7 +65,8 @@ returns-clause-handed g c =
     (opens st c.args.one.now c.begin.new.session c.begin.result c.unwrap.result c.unwrap.ensures c.begin.ensures.opens)
     c.in_ok-insert.ensures.writes
     c.in_ok-own.ensures.finds
-    (subst (Commits st c.get.new.session c.commit.new.session) c.unwrap-committed.ensures c.commit.ensures.commits)
+    (subst (λ (number : Option ℕ). Commits st c.get.new.session c.commit.new.session (Ok number)) c.unwrap-committed.ensures
+    (subst (Commits st c.get.new.session c.commit.new.session) c.unwrap-stood.ensures c.commit.ensures.commits))
     c.meet.ensures.commits_a
     c.meet.ensures.b.sees
     (opens st c.meet.new.b c.begin-2.new.session c.begin-2.result c.unwrap-sees.result c.unwrap-sees.ensures c.begin-2.ensures.opens)
@@ -71,7 +82,8 @@ returns-clause-other g c = λ same.
     (opens st c.args.one.now c.begin.new.session c.begin.result c.unwrap.result c.unwrap.ensures c.begin.ensures.opens)
     c.in_ok-insert.ensures.writes
     c.in_ok-own.ensures.finds
-    (subst (Commits st c.get.new.session c.commit.new.session) c.unwrap-committed.ensures c.commit.ensures.commits)
+    (subst (λ (number : Option ℕ). Commits st c.get.new.session c.commit.new.session (Ok number)) c.unwrap-committed.ensures
+    (subst (Commits st c.get.new.session c.commit.new.session) c.unwrap-stood.ensures c.commit.ensures.commits))
     c.meet.ensures.commits_a
     c.meet.ensures.b.sees
     (opens st c.meet.new.b c.begin-2.new.session c.begin-2.result c.unwrap-sees.result c.unwrap-sees.ensures c.begin-2.ensures.opens)

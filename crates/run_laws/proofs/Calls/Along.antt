@@ -113,6 +113,12 @@ wrote_is : (session : ℕ) (place : Place) (own : Option OwnTransaction) (told :
 wrote_is session place None told was = tt
 wrote_is session place (Some t) told was = (with_own_is place told t).1 ∙ was
 
+-- Behind a commit, refused or not, what is open is of the session.
+committed_is : (session : ℕ) (own : Option OwnTransaction) (told : CoreReply) → IsOwn session own
+    → IsOwn session (Rattle.run_spec.specs.Opened.committed_by own told)
+committed_is session own (reply.Stale what number) was = was
+committed_is session own _ was = tt
+
 -- Behind an event that is of the session or of none what is open is of the session.
 behind_is : (session : ℕ) (own : Option OwnTransaction) (e : CoreEvent) (told : CoreReply) → IsOwn session own
     → is_of session e ≡ true → IsOwn session (own_behind own e told)
@@ -122,7 +128,7 @@ behind_is session own (event.Insert handed table row) told was is = wrote_is ses
 behind_is session own (event.Update handed table row) told was is = wrote_is session (place_of table row) own told was
 behind_is session own (event.Delete handed table key) told was is = wrote_is session (place_at table key) own told was
 behind_is session own (event.Read handed table block) told was is = was
-behind_is session own (event.Commit handed) told was is = tt
+behind_is session own (event.Commit handed reads) told was is = committed_is session own told was
 behind_is session own (event.Abort handed) told was is = tt
 behind_is session own event.Oldest told was is = was
 behind_is session own (event.Observe table block) told was is = was

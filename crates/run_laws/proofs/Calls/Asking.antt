@@ -13,6 +13,7 @@ use Rattle.event_spec.specs.Effects.{CoreEvent}
 use Rattle.event_spec.specs.Parts.{Shape, below, blocks_of, tables_of}
 use Rattle.event_spec.specs.Plans.{plan_of}
 use Rattle.isolation_spec.specs.Contents.{key_of}
+use Rattle.isolation_spec.specs.Reads.{ReadSet}
 use Rattle.workload_spec.specs.declared.command.Command.{Command}
 use Rattle.workload_spec.specs.declared.command.Command.TheVariants as command
 use Rattle.workload_spec.specs.declared.reply.Said.{Said}
@@ -84,7 +85,7 @@ module _ (p : CoreEvent → Bool) where
 
   -- a test that all events of the command pass, those of its call pass
   pub call_passes : (shape : Shape) (worker : Bool) (session : ℕ) (own : Option OwnTransaction) (refusal : Option Said) (call : Call)
-      → list_all p (events_of shape own session call.command call.made) ≡ true
+      → list_all p (events_of shape own call.reads session call.command call.made) ≡ true
       → IsCallBy shape worker session own refusal call → list_all p (events_in call.made) ≡ true
   call_passes shape worker session own (Some refusal) call passes h =
       subst (λ (made : List Occurrence). list_all p (events_in made) ≡ true) (sym h.0) refl
@@ -112,22 +113,24 @@ module _ (p : CoreEvent → Bool) where
       (all_moves table (plan_of (looks_in made)) each)
 
 -- The events of a scan, an export or a command of upkeep ask the machine nothing.
-asks : (shape : Shape) (own : Option OwnTransaction) (session : ℕ) (asked : Command) (made : List Occurrence)
-    → is_single asked ≡ false → list_all asks_nothing (events_of shape own session asked made) ≡ true
-asks shape own session command.Begin made other = absurd (not_true other)
-asks shape own session (command.Get table key) made other = absurd (not_true other)
-asks shape own session (command.Scan table) made other = reads asks_nothing shape own table (λ t is block. refl)
-asks shape own session (command.Insert table row) made other = absurd (not_true other)
-asks shape own session (command.Update table row) made other = absurd (not_true other)
-asks shape own session (command.Delete table key) made other = absurd (not_true other)
-asks shape own session command.Commit made other = absurd (not_true other)
-asks shape own session command.Abort made other = absurd (not_true other)
-asks shape own session command.Observe made other = all_blocks asks_nothing shape event.Observe (λ table block. refl)
-asks shape own session command.Prune made other = all_prunes asks_nothing shape made (λ table block oldest. refl)
-asks shape own session (command.Compact table) made other = compacts asks_nothing shape table made (λ block. refl) (λ pairs. refl)
-asks shape own session (command.Seal table block) made other = refl
-asks shape own session (command.Gather table block) made other = refl
-asks shape own session (command.Export table) made other = reads asks_nothing shape own table (λ t is block. refl)
+asks : (shape : Shape) (own : Option OwnTransaction) (handed : Option ReadSet) (session : ℕ) (asked : Command) (made : List Occurrence)
+    → is_single asked ≡ false → list_all asks_nothing (events_of shape own handed session asked made) ≡ true
+asks shape own handed session (command.Begin checked) made other = absurd (not_true other)
+asks shape own handed session (command.Get table key) made other = absurd (not_true other)
+asks shape own handed session (command.Scan table) made other = reads asks_nothing shape own table (λ t is block. refl)
+asks shape own handed session (command.Range table low high) made other = reads asks_nothing shape own table (λ t is block. refl)
+asks shape own handed session (command.Total table column low high) made other = reads asks_nothing shape own table (λ t is block. refl)
+asks shape own handed session (command.Insert table row) made other = absurd (not_true other)
+asks shape own handed session (command.Update table row) made other = absurd (not_true other)
+asks shape own handed session (command.Delete table key) made other = absurd (not_true other)
+asks shape own handed session command.Commit made other = absurd (not_true other)
+asks shape own handed session command.Abort made other = absurd (not_true other)
+asks shape own handed session command.Observe made other = all_blocks asks_nothing shape event.Observe (λ table block. refl)
+asks shape own handed session command.Prune made other = all_prunes asks_nothing shape made (λ table block oldest. refl)
+asks shape own handed session (command.Compact table) made other = compacts asks_nothing shape table made (λ block. refl) (λ pairs. refl)
+asks shape own handed session (command.Seal table block) made other = refl
+asks shape own handed session (command.Gather table block) made other = refl
+asks shape own handed session (command.Export table) made other = reads asks_nothing shape own table (λ t is block. refl)
 
 -- scans, exports and upkeep ask the machine nothing
 pub others_ask_nothing : OthersAskNothing
@@ -139,7 +142,7 @@ others_ask_nothing shape worker session front call other is = call_passes
     (own_after front)
     (refusal_of call.command (own_after front))
     call
-    (asks shape (own_after front) session call.command call.made other)
+    (asks shape (own_after front) call.reads session call.command call.made other)
     is
 
 -- ---- under which session
@@ -165,47 +168,51 @@ owned session own t same is =
     test_same t.session session (subst (λ (o : Option OwnTransaction). IfSome o (λ t. t.session ≡ session)) is same)
 
 -- The events of a command are of the session, where what is open is of it.
-stand : (shape : Shape) (own : Option OwnTransaction) (session : ℕ) (asked : Command) (made : List Occurrence)
-    → IfSome own (λ t. t.session ≡ session) → list_all (is_of session) (events_of shape own session asked made) ≡ true
-stand shape own session command.Begin made same =
+stand : (shape : Shape) (own : Option OwnTransaction) (handed : Option ReadSet) (session : ℕ) (asked : Command) (made : List Occurrence)
+    → IfSome own (λ t. t.session ≡ session) → list_all (is_of session) (events_of shape own handed session asked made) ≡ true
+stand shape own handed session (command.Begin checked) made same =
     one (is_of session) (event.Begin session) (test_same session session refl)
-stand shape None session (command.Get table key) made same = refl
-stand shape (Some t) session (command.Get table key) made same =
+stand shape None handed session (command.Get table key) made same = refl
+stand shape (Some t) handed session (command.Get table key) made same =
     and_from (t.session == session) true (test_same t.session session same) refl
-stand shape own session (command.Scan table) made same =
+stand shape own handed session (command.Scan table) made same =
     reads (is_of session) shape own table (λ t is block. owned session own t same is)
-stand shape None session (command.Insert table row) made same = refl
-stand shape (Some t) session (command.Insert table row) made same =
+stand shape own handed session (command.Range table low high) made same =
+    reads (is_of session) shape own table (λ t is block. owned session own t same is)
+stand shape own handed session (command.Total table column low high) made same =
+    reads (is_of session) shape own table (λ t is block. owned session own t same is)
+stand shape None handed session (command.Insert table row) made same = refl
+stand shape (Some t) handed session (command.Insert table row) made same =
     and_from (t.session == session) true (test_same t.session session same) refl
-stand shape None session (command.Update table row) made same = refl
-stand shape (Some t) session (command.Update table row) made same = thawed
+stand shape None handed session (command.Update table row) made same = refl
+stand shape (Some t) handed session (command.Update table row) made same = thawed
     session
     table
     (option_and_then (imaged_block shape table (key_of row)) (parts_before made))
     (event.Update (Rattle.run_spec.specs.Opened.own_key table (key_of row) t) table row)
     (test_same t.session session same)
-stand shape None session (command.Delete table key) made same = refl
-stand shape (Some t) session (command.Delete table key) made same = thawed
+stand shape None handed session (command.Delete table key) made same = refl
+stand shape (Some t) handed session (command.Delete table key) made same = thawed
     session
     table
     (option_and_then (imaged_block shape table key) (parts_before made))
     (event.Delete (Rattle.run_spec.specs.Opened.own_key table key t) table key)
     (test_same t.session session same)
-stand shape None session command.Commit made same = refl
-stand shape (Some t) session command.Commit made same =
+stand shape None handed session command.Commit made same = refl
+stand shape (Some t) handed session command.Commit made same =
     and_from (t.session == session) true (test_same t.session session same) refl
-stand shape None session command.Abort made same = refl
-stand shape (Some t) session command.Abort made same =
+stand shape None handed session command.Abort made same = refl
+stand shape (Some t) handed session command.Abort made same =
     and_from (t.session == session) true (test_same t.session session same) refl
-stand shape own session command.Observe made same =
+stand shape own handed session command.Observe made same =
     all_blocks (is_of session) shape event.Observe (λ table block. refl)
-stand shape own session command.Prune made same =
+stand shape own handed session command.Prune made same =
     all_prunes (is_of session) shape made (λ table block oldest. refl)
-stand shape own session (command.Compact table) made same =
+stand shape own handed session (command.Compact table) made same =
     compacts (is_of session) shape table made (λ block. refl) (λ pairs. refl)
-stand shape own session (command.Seal table block) made same = refl
-stand shape own session (command.Gather table block) made same = refl
-stand shape own session (command.Export table) made same =
+stand shape own handed session (command.Seal table block) made same = refl
+stand shape own handed session (command.Gather table block) made same = refl
+stand shape own handed session (command.Export table) made same =
     reads (is_of session) shape own table (λ t is block. owned session own t same is)
 
 -- the events of a call are of its own session
@@ -218,5 +225,5 @@ events_are_the_sessions shape worker session front call same is = call_passes
     (own_after front)
     (refusal_of call.command (own_after front))
     call
-    (stand shape (own_after front) session call.command call.made same)
+    (stand shape (own_after front) call.reads session call.command call.made same)
     is

@@ -9,8 +9,11 @@ use Rattle.event_spec.specs.declared.event.Event.TheVariants as event
 use Rattle.event_spec.specs.declared.own.OwnTransaction.{OwnTransaction}
 use Rattle.event_spec.specs.declared.reply.Reply.TheVariants as reply
 use Rattle.event_spec.specs.Effects.{CoreEvent}
+use Rattle.event_spec.specs.Lawful.{reads_handed}
 use Rattle.event_spec.specs.Parts.{Shape}
 use Rattle.event_spec.specs.Replies.{CoreReply}
+use Rattle.isolation_laws.proofs.Checked.{commit-stands, stale-closed}
+use Rattle.isolation_spec.specs.Checked.{step_with}
 use Rattle.isolation_spec.specs.Contents.{key_of}
 use Rattle.isolation_spec.specs.declared.command.Act.{Act}
 use Rattle.isolation_spec.specs.declared.command.Act.TheVariants as act
@@ -18,6 +21,7 @@ use Rattle.isolation_spec.specs.declared.command.Answer.{Answer}
 use Rattle.isolation_spec.specs.declared.command.Answer.TheVariants as answer
 use Rattle.isolation_spec.specs.declared.command.Command.{Command as Request}
 use Rattle.isolation_spec.specs.Machine.{IsolationMachine, Transaction, step, step_of, transaction_of}
+use Rattle.isolation_spec.specs.Reads.{ReadSet}
 use Rattle.isolation_spec.specs.Store.{Allows, Outcome, Answered, Freezing, Full, Memory, IsChange, IsInsert, IsRead}
 use Rattle.timeline_spec.specs.Timeline.{Answers, request_of, said_of}
 use Rattle.workload_spec.specs.declared.command.Command.{Command}
@@ -85,7 +89,7 @@ pub record Last (m n : IsolationMachine) (made : List Occurrence) (e : CoreEvent
   pub last : Occurrence
   pub is : last.event ≡ e
   pub replied : last_or None (replies_in made) ≡ Some last.reply
-  pub stepped : IsStep (command_in last.event) m last.reply n
+  pub stepped : IsStep (command_in last.event) (reads_handed last.event) m last.reply n
 
 -- The machine at the end of some events is the one at the last of them.
 last_of : (m n : IsolationMachine) (made : List Occurrence) (es : List CoreEvent) (e : CoreEvent)
@@ -112,7 +116,7 @@ is_calm (event.Insert own table row) = true
 is_calm (event.Update own table row) = true
 is_calm (event.Delete own table key) = true
 is_calm (event.Read own table block) = true
-is_calm (event.Commit own) = false
+is_calm (event.Commit own reads) = false
 is_calm (event.Abort own) = false
 is_calm event.Oldest = true
 is_calm (event.Observe table block) = true
@@ -125,7 +129,7 @@ is_calm (event.Thaw table block) = true
 
 -- A get, however it is answered, leaves the machine.
 get_stays : (m n : IsolationMachine) (session table : ℕ) (key : ℤ) (outcome : Outcome)
-    → Allows m (asked session (act.Get table key)) outcome n → n ≡ m
+    → Allows m None (asked session (act.Get table key)) outcome n → n ≡ m
 get_stays m n session table key (Answered answered) h = go (transaction_of session m) h
   where
     go : (o : Option Transaction) → step_of m (asked session (act.Get table key)) o ≡ (answered, n) → n ≡ m
@@ -147,19 +151,19 @@ was_refused false e = absurd (not_true e)
 
 -- a command that was refused memory leaves the machine
 refused_stays : (m n : IsolationMachine) (request : Request) (told : CoreReply) → (is_memory told || not true) ≡ true
-    → IsTold m request told n → n ≡ m
+    → IsTold m None request told n → n ≡ m
 refused_stays m n request told e h = (subst
-    (λ (told : CoreReply). IsTold m request told n)
+    (λ (told : CoreReply). IsTold m None request told n)
     (memory_is told (was_refused (is_memory told) e))
     h).2
 
 -- at an event that begins and ends nothing, and is refused memory or not final, the machine stays
 pub event_stays : (m n : IsolationMachine) (e : CoreEvent) (told : CoreReply) → is_calm e ≡ true
-    → (is_memory told || not (is_final e)) ≡ true → IsStep (command_in e) m told n → n ≡ m
+    → (is_memory told || not (is_final e)) ≡ true → IsStep (command_in e) (reads_handed e) m told n → n ≡ m
 event_stays m n (event.Begin session) told calm cut h = absurd (not_true calm)
 event_stays m n (event.Get own table key) told calm cut h =
     let allowed = some_and
-    (λ outcome. Allows m (asked own.session (act.Get table key)) outcome n)
+    (λ outcome. Allows m None (asked own.session (act.Get table key)) outcome n)
     (outcome_of told)
     h in
     get_stays m n own.session table key allowed.0 allowed.2
@@ -170,7 +174,7 @@ event_stays m n (event.Update own table row) told calm cut h =
 event_stays m n (event.Delete own table key) told calm cut h =
     refused_stays m n (asked own.session (act.Delete table key)) told cut h
 event_stays m n (event.Read own table block) told calm cut h = h
-event_stays m n (event.Commit own) told calm cut h = absurd (not_true calm)
+event_stays m n (event.Commit own reads) told calm cut h = absurd (not_true calm)
 event_stays m n (event.Abort own) told calm cut h = absurd (not_true calm)
 event_stays m n event.Oldest told calm cut h = h
 event_stays m n (event.Observe table block) told calm cut h = h
@@ -238,37 +242,79 @@ one_open session m own open' = go (transaction_of session m) open'.snapshot refl
     go None e is = absurd (let never : ⊥ = cc e in never)
     go (Some t) e is = (t, is)
 
-module _ (session : ℕ) (made : List Occurrence) (told : Option Said) (line : Said) (m n : IsolationMachine)
+-- What is answered to a session without a transaction does not depend on what is handed in.
+closed_stands : (m : IsolationMachine) (reads : Option ReadSet) (session : ℕ) (what : Act) → transaction_of session m ≡ None
+    → step_with m reads (asked session what) ≡ step m (asked session what)
+closed_stands m reads session (act.Begin checked) none = refl
+closed_stands m reads session (act.Get table key) none = refl
+closed_stands m reads session (act.Scan table) none = refl
+closed_stands m reads session (act.Range table low high) none = refl
+closed_stands m reads session (act.Total table column low high) none = refl
+closed_stands m reads session (act.Insert table row) none = refl
+closed_stands m reads session (act.Update table row) none = refl
+closed_stands m reads session (act.Delete table key) none = refl
+closed_stands m reads session act.Commit none = commit-stands m reads session (stale-closed m reads session none)
+closed_stands m reads session act.Abort none = refl
+
+-- Where the machine answers alike whichever of two read sets is handed in, a store may do so.
+allows_as : (m n : IsolationMachine) (handed reads : Option ReadSet) (request : Request) (outcome : Outcome)
+    → step_with m handed request ≡ step_with m reads request → Allows m handed request outcome n → Allows m reads request outcome n
+allows_as m n handed reads request (Answered said) same h = sym same ∙ h
+allows_as m n handed reads request Freezing same h = h
+allows_as m n handed reads request Full same h = h
+allows_as m n handed reads request Memory same h = h
+
+-- To the machine it is all one whether a transaction that begins is checked.
+begins_alike : (m : IsolationMachine) (session : ℕ) (checked : Bool)
+    → step m (asked session (act.Begin false)) ≡ step m (asked session (act.Begin checked))
+begins_alike m session checked = go (transaction_of session m)
+  where
+    go : (o : Option Transaction) → step_of m (asked session (act.Begin false)) o ≡ step_of m (asked session (act.Begin checked)) o
+    go None = refl
+    go (Some t) = refl
+
+-- A begin that is answered is answered so, checked or not.
+begin_allowed : (m n : IsolationMachine) (reads : Option ReadSet) (session : ℕ) (checked : Bool) (outcome : Outcome)
+    → Allows m reads (asked session (act.Begin false)) outcome n → Allows m reads (asked session (act.Begin checked)) outcome n
+begin_allowed m n reads session checked (Answered said) h = sym (begins_alike m session checked) ∙ h
+begin_allowed m n reads session checked Freezing h = absurd h.0
+begin_allowed m n reads session checked Full h = absurd h.0
+begin_allowed m n reads session checked Memory h = (h.0, h.1, h.2)
+
+module _ (session : ℕ) (made : List Occurrence) (told : Option Said) (reads : Option ReadSet) (line : Said) (m n : IsolationMachine)
     (tells : told ≡ Some line) (ends : EndsAt made m n) where
   -- refused before an event
   refused : (what : Act) (answered : Answer) → (made ≡ []) × (told ≡ Some (said_of answered))
-      → step m (asked session what) ≡ (answered, m) → Answers m (asked session what) line n
+      → step_with m reads (asked session what) ≡ (answered, m) → Answers m reads (asked session what) line n
   refused what answered h is =
       let stays : n ≡ m = subst (λ (xs : List Occurrence). EndsAt xs m n) h.0 ends in record {
         outcome = Answered answered;
         tells = same_line line (said_of answered) (sym tells ∙ h.1);
-        allows = subst (λ (x : IsolationMachine). step m (asked session what) ≡ (answered, x)) (sym stays) is;
+        allows = subst (λ (x : IsolationMachine). step_with m reads (asked session what) ≡ (answered, x)) (sym stays) is;
       }
 
   -- carried out
   whole : (what : Act) (table : ℕ) (es : List CoreEvent) (e : CoreEvent) → command_in e ≡ Some (asked session what)
-      → events_in made ≡ es ++ e ∷ [] → told ≡ last_told table 0 (replies_in made) → Answers m (asked session what) line n
-  whole what table es e asks events says =
+      → step_with m (reads_handed e) (asked session what) ≡ step_with m reads (asked session what)
+      → events_in made ≡ es ++ e ∷ [] → told ≡ last_told table 0 (replies_in made) → Answers m reads (asked session what) line n
+  whole what table es e asks alike events says =
       let at = last_of m n made es e events ends in
-      let stepped : IsTold m (asked session what) at.last.reply n =
-      subst (λ (o : Option Request). IsStep o m at.last.reply n) (ap command_in at.is ∙ asks) at.stepped in
-      let allowed = some_and (λ outcome. Allows m (asked session what) outcome n) (outcome_of at.last.reply) stepped in
+      let handed : IsStep (command_in e) (reads_handed e) m at.last.reply n =
+      subst (λ (x : CoreEvent). IsStep (command_in x) (reads_handed x) m at.last.reply n) at.is at.stepped in
+      let stepped : IsTold m (reads_handed e) (asked session what) at.last.reply n =
+      subst (λ (o : Option Request). IsStep o (reads_handed e) m at.last.reply n) asks handed in
+      let allowed = some_and (λ outcome. Allows m (reads_handed e) (asked session what) outcome n) (outcome_of at.last.reply) stepped in
       record {
         outcome = allowed.0;
         tells = lines_tell table 0 at.last.reply allowed.0 line allowed.1
             (sym (ap (option_and_then (told_by table 0)) at.replied) ∙ sym says ∙ tells);
-        allows = allowed.2;
+        allows = allows_as m n (reads_handed e) reads (asked session what) allowed.0 alike allowed.2;
       }
 
   -- cut short
   part : (what : Act) (own : OwnTransaction) → OpenAs session (Some own) (transaction_of session m)
       → (IsRead what ⊎ IsChange what ⊎ IsInsert what) → told ≡ Some said.Memory → n ≡ m
-      → Answers m (asked session what) line n
+      → Answers m reads (asked session what) line n
   part what own open' may says stays =
       let t = one_open session m own open' in record {
         outcome = Memory;
@@ -279,18 +325,18 @@ module _ (session : ℕ) (made : List Occurrence) (told : Option Said) (line : S
   -- Where nothing is open, the machine answers too that there is no transaction.
   without_one : (what : Act) → OpenAs session None (transaction_of session m)
       → (made ≡ []) × (told ≡ Some said.NoTransaction) → step_of m (asked session what) None ≡ (answer.NoTransaction, m)
-      → Answers m (asked session what) line n
+      → Answers m reads (asked session what) line n
   without_one what open' h is = refused what answer.NoTransaction h
-      (ap (λ o. step_of m (asked session what) o) (none_open session m open') ∙ is)
+      (closed_stands m reads session what (none_open session m open') ∙ ap (λ o. step_of m (asked session what) o) (none_open session m open') ∙ is)
 
   -- The machine, which stays, answers a call that was cut short with its line.
   cut_at : (shape : Shape) (what : Act) (own : OwnTransaction) (command : Command) → OpenAs session (Some own) (transaction_of session m)
       → (IsRead what ⊎ IsChange what ⊎ IsInsert what)
-      → list_all is_calm (events_of shape (Some own) session command made) ≡ true
-      → IsPart shape session (Some own) (record { command = command; made = made; told = told })
-      → Answers m (asked session what) line n
+      → list_all is_calm (events_of shape (Some own) reads session command made) ≡ true
+      → IsPart shape session (Some own) (record { command = command; made = made; told = told; reads = reads })
+      → Answers m reads (asked session what) line n
   cut_at shape what own command open' may calm p = part what own open' may p.line
-      (cut_stays m n made (front_calm made p.missed (events_of shape (Some own) session command made) calm p.events) p.cut ends)
+      (cut_stays m n made (front_calm made p.missed (events_of shape (Some own) reads session command made) calm p.events) p.cut ends)
 
   -- An act asked by the transaction's session is asked by the session that has it.
   asks_as : (own : OwnTransaction) (what : Act) → own.session ≡ session → Some (asked own.session what) ≡ Some (asked session what)
@@ -298,17 +344,22 @@ module _ (session : ℕ) (made : List Occurrence) (told : Option Said) (line : S
 
   -- The machine answers the command's request, if it has one, with the line.
   abbrev Takes : Command → Type 0
-  Takes command = IfSome (request_of (Session session) command) (λ request. Answers m request line n)
+  Takes command = IfSome (request_of (Session session) command) (λ request. Answers m reads request line n)
 
   -- The machine answers each command of a single event with its line.
   line_taken : (shape : Shape) (command : Command) (own : Option OwnTransaction) → is_single command ≡ true
       → OpenAs session own (transaction_of session m)
-      → IsCallBy shape false session own (refusal_of command own) (record { command = command; made = made; told = told })
+      → IsCallBy shape false session own (refusal_of command own) (record { command = command; made = made; told = told; reads = reads })
       → Takes command
-  line_taken shape command.Begin None single open' (inl w) = whole act.Begin 0 [] (event.Begin session) refl w.events w.line
-  line_taken shape command.Begin None single open' (inr p) = absurd (not_true p.may)
-  line_taken shape command.Begin (Some own) single open' h = refused act.Begin answer.InTransaction h
-      (ap (λ o. step_of m (asked session act.Begin) o) (one_open session m own open').1)
+  line_taken shape (command.Begin checked) None single open' (inl w) =
+      let plain = whole (act.Begin false) 0 [] (event.Begin session) refl refl w.events w.line in record {
+        outcome = plain.outcome;
+        tells = plain.tells;
+        allows = begin_allowed m n reads session checked plain.outcome plain.allows;
+      }
+  line_taken shape (command.Begin checked) None single open' (inr p) = absurd (not_true p.may)
+  line_taken shape (command.Begin checked) (Some own) single open' h = refused (act.Begin checked) answer.InTransaction h
+      (ap (λ o. step_of m (asked session (act.Begin checked)) o) (one_open session m own open').1)
   line_taken shape (command.Get table key) None single open' h = without_one (act.Get table key) open' h refl
   line_taken shape (command.Get table key) (Some own) single open' (inl w) = whole
       (act.Get table key)
@@ -316,6 +367,7 @@ module _ (session : ℕ) (made : List Occurrence) (told : Option Said) (line : S
       []
       (event.Get (own_key table key own) table key)
       (asks_as own (act.Get table key) open'.session_is)
+      refl
       w.events
       w.line
   line_taken shape (command.Get table key) (Some own) single open' (inr p) =
@@ -327,6 +379,7 @@ module _ (session : ℕ) (made : List Occurrence) (told : Option Said) (line : S
       []
       (event.Insert (own_key table (key_of row) own) table row)
       (asks_as own (act.Insert table row) open'.session_is)
+      refl
       w.events
       w.line
   line_taken shape (command.Insert table row) (Some own) single open' (inr p) =
@@ -338,6 +391,7 @@ module _ (session : ℕ) (made : List Occurrence) (told : Option Said) (line : S
       (thaws shape table (key_of row) made)
       (event.Update (own_key table (key_of row) own) table row)
       (asks_as own (act.Update table row) open'.session_is)
+      refl
       w.events
       w.line
   line_taken shape (command.Update table row) (Some own) single open' (inr p) = cut_at
@@ -360,6 +414,7 @@ module _ (session : ℕ) (made : List Occurrence) (told : Option Said) (line : S
       (thaws shape table key made)
       (event.Delete (own_key table key own) table key)
       (asks_as own (act.Delete table key) open'.session_is)
+      refl
       w.events
       w.line
   line_taken shape (command.Delete table key) (Some own) single open' (inr p) = cut_at
@@ -377,13 +432,15 @@ module _ (session : ℕ) (made : List Occurrence) (told : Option Said) (line : S
       p
   line_taken shape command.Commit None single open' h = without_one act.Commit open' h refl
   line_taken shape command.Commit (Some own) single open' (inl w) =
-      whole act.Commit 0 [] (event.Commit own) (asks_as own act.Commit open'.session_is) w.events w.line
+      whole act.Commit 0 [] (event.Commit own reads) (asks_as own act.Commit open'.session_is) refl w.events w.line
   line_taken shape command.Commit (Some own) single open' (inr p) = absurd (not_true p.may)
   line_taken shape command.Abort None single open' h = without_one act.Abort open' h refl
   line_taken shape command.Abort (Some own) single open' (inl w) =
-      whole act.Abort 0 [] (event.Abort own) (asks_as own act.Abort open'.session_is) w.events w.line
+      whole act.Abort 0 [] (event.Abort own) (asks_as own act.Abort open'.session_is) refl w.events w.line
   line_taken shape command.Abort (Some own) single open' (inr p) = absurd (not_true p.may)
   line_taken shape (command.Scan table) own single open' h = absurd (not_true single)
+  line_taken shape (command.Range table low high) own single open' h = absurd (not_true single)
+  line_taken shape (command.Total table column low high) own single open' h = absurd (not_true single)
   line_taken shape command.Observe own single open' h = absurd (not_true single)
   line_taken shape command.Prune own single open' h = absurd (not_true single)
   line_taken shape (command.Compact table) own single open' h = absurd (not_true single)
@@ -397,6 +454,7 @@ lines_come_about shape session front call line machine next single is tells open
     session
     call.made
     call.told
+    call.reads
     line
     machine
     next

@@ -12,7 +12,7 @@ use Rattle.isolation_spec.specs.Store as store
 use Rattle.timeline_spec.specs.Timeline.{Tells}
 use Rattle.workload_spec.specs.declared.reply.Said.{Said}
 use Rattle.workload_spec.specs.declared.reply.Said.TheVariants as said
-use Rattle.run_spec.specs.Told.{fault_told, row_told}
+use Rattle.run_spec.specs.Told.{fault_told, row_told, stale_of}
 use Rattle.run_laws.specs.Calls.Lines.{LinesTellOutcomes}
 
 -- What a refused write is told tells the outcome of the fault.
@@ -49,6 +49,8 @@ lines_tell table block (reply.Refused refused) outcome line o l =
     tells_of (outcome_of_fault refused) (fault_told table refused) (fault_tells table refused) outcome line o l
 lines_tell table block (reply.Rows rows) outcome line o l = absurd (none-some outcome o)
 lines_tell table block (reply.Shared rows) outcome line o l = absurd (none-some outcome o)
+lines_tell table block (reply.Stale what number) outcome line o l =
+    tells_of (store.Answered (answer.Stale what number)) (said.Stale (stale_of what) number) refl outcome line o l
 lines_tell table block (reply.Committed number) outcome line o l =
     tells_of (store.Answered (answer.Committed number)) (said.Committed number) refl outcome line o l
 lines_tell table block reply.Aborted outcome line o l =

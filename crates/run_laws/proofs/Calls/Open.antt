@@ -6,15 +6,16 @@ use Rattle.std.proofs.lemmas.Bool.Decides.{nat_tests}
 use Rattle.std.proofs.lemmas.List.Elements.{filter-append}
 use Rattle.std.proofs.lemmas.List.Sums.{fold-append}
 use Rattle.cell_model.specs.declared.cell.Cell.{Cell}
+use Rattle.core_laws.proofs.Events.Plain.{plain}
 use Rattle.core_laws.specs.Events.Laws.{IsStep, IsTold, command_in, outcome_of}
 use Rattle.event_spec.specs.declared.event.Event.TheVariants as event
 use Rattle.event_spec.specs.declared.own.OwnTransaction.{OwnTransaction}
 use Rattle.event_spec.specs.declared.reply.Reply.TheVariants as reply
-use Rattle.event_spec.specs.Effects.{CoreEvent}
-use Rattle.event_spec.specs.Lawful.{session_of}
+use Rattle.event_spec.specs.Effects.{CoreEvent, stale_in}
+use Rattle.event_spec.specs.Lawful.{reads_handed, session_of}
 use Rattle.event_spec.specs.Parts.{Parts, Shape}
 use Rattle.event_spec.specs.Replay.{reply_after}
-use Rattle.event_spec.specs.Replies.{CoreReply, reply_to}
+use Rattle.event_spec.specs.Replies.{CoreReply, reply_to, reply_to_commit}
 use Rattle.core_laws.proofs.Following.Machines.{enters, found_session, of-append-new, of-append-other, of-map, of-without, of-without-own}
 use Rattle.isolation_spec.specs.declared.command.Act.{Act}
 use Rattle.isolation_spec.specs.declared.command.Act.TheVariants as act
@@ -22,12 +23,15 @@ use Rattle.isolation_spec.specs.declared.command.Answer.{Answer}
 use Rattle.isolation_spec.specs.declared.command.Answer.TheVariants as answer
 use Rattle.isolation_spec.specs.declared.command.Command.{Command}
 use Rattle.isolation_spec.specs.declared.place.Place.{Place}
+use Rattle.isolation_spec.specs.declared.read.Read.{Read}
 use Rattle.isolation_spec.specs.Contents.{WriteSet, place_at, place_of}
 use Rattle.isolation_spec.specs.Machine.{IsolationMachine, Transaction, commit, step, step_of, transaction_of, with_own, without, write}
+use Rattle.isolation_spec.specs.Reads.{ReadSet}
 use Rattle.isolation_spec.specs.Store.{Allows, Outcome, Answered, Freezing, Full, Memory}
 use Rattle.run_spec.specs.Occurrences.{Occurrence, occurrence_of, under}
 use Rattle.run_spec.specs.Opened.{own_after, own_behind}
 use Rattle.run_spec.specs.Opened as opened
+use Rattle.run_laws.proofs.Calls.Commits.{committed_is, stale_stays}
 use Rattle.run_laws.specs.Calls.Open.{NothingIsOpen, OpenAs, OpensAsTheMachine}
 
 -- the snapshot of a session's open transaction
@@ -62,9 +66,11 @@ write_keeps m t place value None r =
 
 -- The act neither begins nor ends a transaction.
 abbrev is_plain : Act → Bool
-is_plain act.Begin = false
+is_plain (act.Begin checked) = false
 is_plain (act.Get table key) = true
 is_plain (act.Scan table) = true
+is_plain (act.Range table low high) = true
+is_plain (act.Total table column low high) = true
 is_plain (act.Insert table row) = true
 is_plain (act.Update table row) = true
 is_plain (act.Delete table key) = true
@@ -78,11 +84,15 @@ not_plain e = cc
 -- A step that neither begins nor ends a transaction leaves all snapshots.
 plain_step : (m : IsolationMachine) (q : ℕ) (what : Act) (o : Option Transaction) (r : ℕ) → is_plain what ≡ true
     → snapshot_in r (step_of m (asked q what) o).1 ≡ snapshot_in r m
-plain_step m q act.Begin o r plain = absurd (not_plain plain)
+plain_step m q (act.Begin checked) o r plain = absurd (not_plain plain)
 plain_step m q (act.Get table key) None r plain = refl
 plain_step m q (act.Get table key) (Some t) r plain = refl
 plain_step m q (act.Scan table) None r plain = refl
 plain_step m q (act.Scan table) (Some t) r plain = refl
+plain_step m q (act.Range table low high) None r plain = refl
+plain_step m q (act.Range table low high) (Some t) r plain = refl
+plain_step m q (act.Total table column low high) None r plain = refl
+plain_step m q (act.Total table column low high) (Some t) r plain = refl
 plain_step m q (act.Insert table row) None r plain = refl
 plain_step m q (act.Insert table row) (Some t) r plain = write_keeps m t _ _ _ r
 plain_step m q (act.Update table row) None r plain = refl
@@ -94,10 +104,10 @@ plain_step m q act.Abort o r plain = absurd (not_plain plain)
 
 -- An outcome of an act that neither begins nor ends a transaction leaves all snapshots.
 allows_plain : (m next : IsolationMachine) (q : ℕ) (what : Act) (outcome : Outcome) (r : ℕ) → is_plain what ≡ true
-    → Allows m (asked q what) outcome next → snapshot_in r next ≡ snapshot_in r m
-allows_plain m next q what (Answered said) r plain h =
-    ap (λ (p : Answer × IsolationMachine). snapshot_in r p.1) (sym h)
-    ∙ plain_step m q what (transaction_of q m) r plain
+    → Allows m None (asked q what) outcome next → snapshot_in r next ≡ snapshot_in r m
+allows_plain m next q what (Answered said) r is h =
+    ap (λ (p : Answer × IsolationMachine). snapshot_in r p.1) (sym h ∙ plain m (asked q what))
+    ∙ plain_step m q what (transaction_of q m) r is
 allows_plain m next q what Freezing r plain h = ap (snapshot_in r) h.2
 allows_plain m next q what Full r plain h = ap (snapshot_in r) h.2
 allows_plain m next q what Memory r plain h = ap (snapshot_in r) h.2
@@ -109,9 +119,9 @@ some_and P (Some x) h = (x, h)
 
 -- A reply to an act that neither begins nor ends a transaction leaves all snapshots.
 told_plain : (m next : IsolationMachine) (q : ℕ) (what : Act) (told : CoreReply) (r : ℕ) → is_plain what ≡ true
-    → IsTold m (asked q what) told next → snapshot_in r next ≡ snapshot_in r m
+    → IsTold m None (asked q what) told next → snapshot_in r next ≡ snapshot_in r m
 told_plain m next q what told r plain h =
-    let allowed = some_and (λ outcome. Allows m (asked q what) outcome next) (outcome_of told) h in
+    let allowed = some_and (λ outcome. Allows m None (asked q what) outcome next) (outcome_of told) h in
     allows_plain m next q what allowed.0 r plain allowed.1
 
 -- ---- a begin, and an end
@@ -142,11 +152,11 @@ not_within : (number : ℕ) → answer.InTransaction ≡ answer.At number → �
 not_within number e = cc
 
 -- A begin that is answered with a number leaves its session open with that snapshot.
-begin_leaves : (m next : IsolationMachine) (q number : ℕ) → step m (asked q act.Begin) ≡ (answer.At number, next)
+begin_leaves : (m next : IsolationMachine) (q number : ℕ) → step m (asked q (act.Begin false)) ≡ (answer.At number, next)
     → Leaves q m next (Some number)
 begin_leaves m next q number h = go (transaction_of q m) refl h
   where
-    go : (o : Option Transaction) → transaction_of q m ≡ o → step_of m (asked q act.Begin) o ≡ (answer.At number, next)
+    go : (o : Option Transaction) → transaction_of q m ≡ o → step_of m (asked q (act.Begin false)) o ≡ (answer.At number, next)
         → Leaves q m next (Some number)
     go (Some t) is e = absurd (not_within number (said_is answer.InTransaction (answer.At number) m next e))
     go None is e =
@@ -262,7 +272,7 @@ module _ (shape : Shape) (parts : Parts) (q : ℕ) (m next : IsolationMachine) w
 
   -- A begin of the session, refused or not, keeps that it agrees with the machine.
   begin_keeps : (session : ℕ) (refused : Bool) → session ≡ q
-      → IsStep (command_in (event.Begin session)) m (told_to (event.Begin session) refused) next
+      → IsStep (command_in (event.Begin session)) (reads_handed (event.Begin session)) m (told_to (event.Begin session) refused) next
       → Keeps q (event.Begin session) (told_to (event.Begin session) refused) m next
   begin_keeps session true same (inl h, some, rest) own was = absurd h
   begin_keeps session true same (inr (inl h), some, rest) own was = absurd h
@@ -287,18 +297,24 @@ module _ (shape : Shape) (parts : Parts) (q : ℕ) (m next : IsolationMachine) w
   )
 
   -- A commit of the session, refused or not, keeps that it agrees with the machine.
-  commit_keeps : (handed : OwnTransaction) (refused : Bool) → handed.session ≡ q
-      → IsStep (command_in (event.Commit handed)) m (told_to (event.Commit handed) refused) next
-      → Keeps q (event.Commit handed) (told_to (event.Commit handed) refused) m next
-  commit_keeps handed true same (inl h, some, rest) = absurd h
-  commit_keeps handed true same (inr (inl h), some, rest) = absurd h
-  commit_keeps handed true same (inr (inr h), some, rest) = absurd h
-  commit_keeps handed false same h = ends_keep handed.session (event.Commit handed)
-      (told_to (event.Commit handed) false) same (λ own. refl) (commit_leaves m next handed.session _ h)
+  commit_keeps : (handed : OwnTransaction) (reads : Option ReadSet) (refused : Bool) → handed.session ≡ q
+      → IsStep (command_in (event.Commit handed reads)) (reads_handed (event.Commit handed reads)) m (told_to (event.Commit handed reads) refused) next
+      → Keeps q (event.Commit handed reads) (told_to (event.Commit handed reads) refused) m next
+  commit_keeps handed reads true same (inl h, some, rest) = absurd h
+  commit_keeps handed reads true same (inr (inl h), some, rest) = absurd h
+  commit_keeps handed reads true same (inr (inr h), some, rest) = absurd h
+  commit_keeps handed reads false same h = go (stale_in shape parts handed reads) h
+    where
+      go : (o : Option (Read × ℕ)) → IsTold m reads (asked handed.session act.Commit) (reply_to_commit shape parts handed o) next
+          → Keeps q (event.Commit handed reads) (reply_to_commit shape parts handed o) m next
+      go None h = ends_keep handed.session (event.Commit handed reads) (reply_to_commit shape parts handed None) same (λ own. refl)
+          (commit_leaves m next handed.session _ (committed_is m next reads handed.session _ h))
+      go (Some stale) h = aside q (event.Commit handed reads) (reply_to_commit shape parts handed (Some stale)) m next (λ own. refl)
+          (stale_stays m next reads handed.session stale.0 stale.1 h)
 
   -- An abort of the session, refused or not, keeps that it agrees with the machine.
   abort_keeps : (handed : OwnTransaction) (refused : Bool) → handed.session ≡ q
-      → IsStep (command_in (event.Abort handed)) m (told_to (event.Abort handed) refused) next
+      → IsStep (command_in (event.Abort handed)) (reads_handed (event.Abort handed)) m (told_to (event.Abort handed) refused) next
       → Keeps q (event.Abort handed) (told_to (event.Abort handed) refused) m next
   abort_keeps handed true same (inl h, some, rest) = absurd h
   abort_keeps handed true same (inr (inl h), some, rest) = absurd h
@@ -308,7 +324,7 @@ module _ (shape : Shape) (parts : Parts) (q : ℕ) (m next : IsolationMachine) w
 
   -- an event, whatever it is
   event_keeps : (e : CoreEvent) (refused : Bool) → IfSome (session_of e) (λ session. session ≡ q)
-      → IsStep (command_in e) m (told_to e refused) next → Keeps q e (told_to e refused) m next
+      → IsStep (command_in e) (reads_handed e) m (told_to e refused) next → Keeps q e (told_to e refused) m next
   event_keeps (event.Begin session) refused same h = begin_keeps session refused same h
   event_keeps (event.Get handed table key) refused same h = still
       q
@@ -347,7 +363,7 @@ module _ (shape : Shape) (parts : Parts) (q : ℕ) (m next : IsolationMachine) w
       (λ r. told_plain m next handed.session (act.Delete table key) (told_to (event.Delete handed table key) refused) r refl h)
   event_keeps (event.Read handed table block) refused same h =
       aside q (event.Read handed table block) (told_to (event.Read handed table block) refused) m next (λ own. refl) h
-  event_keeps (event.Commit handed) refused same h = commit_keeps handed refused same h
+  event_keeps (event.Commit handed reads) refused same h = commit_keeps handed reads refused same h
   event_keeps (event.Abort handed) refused same h = abort_keeps handed refused same h
   event_keeps event.Oldest refused same h =
       aside q event.Oldest (told_to event.Oldest refused) m next (λ own. refl) h

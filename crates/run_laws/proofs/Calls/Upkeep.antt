@@ -9,6 +9,7 @@ use Rattle.event_spec.specs.declared.event.Event.TheVariants as event
 use Rattle.event_spec.specs.declared.own.OwnTransaction.{OwnTransaction}
 use Rattle.event_spec.specs.declared.reply.Reply.TheVariants as reply
 use Rattle.event_spec.specs.Effects.{CoreEvent}
+use Rattle.isolation_spec.specs.Reads.{ReadSet}
 use Rattle.event_spec.specs.Parts.{Parts, Shape, body_at, is_head}
 use Rattle.event_spec.specs.Replies.{CoreReply, reply_to, reply_to_image, reply_to_seal}
 use Rattle.outcome_spec.specs.Forms.{is_silent, is_upkeep}
@@ -111,7 +112,7 @@ one_line shape table block e (x ∷ y ∷ rest) line events replied granted says
     absurd (no_more x.event e y.event (events_in rest) events)
 
 module _ (shape : Shape) (worker : Bool) (session : ℕ) (own : Option OwnTransaction) (made : List Occurrence)
-    (told : Option Said) (line : Said) (replied : AreReplied shape made) (tells : told ≡ Some line) where
+    (told : Option Said) (handed : Option ReadSet) (line : Said) (replied : AreReplied shape made) (tells : told ≡ Some line) where
   -- Where memory was wanting, the line that is told is one of upkeep.
   cut : told ≡ Some said.Memory → is_of_upkeep line ≡ true
   cut says = meant said.Memory line refl (sym says ∙ tells)
@@ -122,11 +123,13 @@ module _ (shape : Shape) (worker : Bool) (session : ℕ) (own : Option OwnTransa
 
   -- The line of each command of upkeep, refused, whole or in part, is one of upkeep.
   told_so : (asked : Command) → is_upkeep asked ≡ true
-      → IsCallBy shape worker session own (refusal_of asked own) (record { command = asked; made = made; told = told })
+      → IsCallBy shape worker session own (refusal_of asked own) (record { command = asked; made = made; told = told; reads = handed })
       → is_of_upkeep line ≡ true
-  told_so command.Begin is h = absurd (not_true is)
+  told_so (command.Begin checked) is h = absurd (not_true is)
   told_so (command.Get table key) is h = absurd (not_true is)
   told_so (command.Scan table) is h = absurd (not_true is)
+  told_so (command.Range table low high) is h = absurd (not_true is)
+  told_so (command.Total table column low high) is h = absurd (not_true is)
   told_so (command.Insert table row) is h = absurd (not_true is)
   told_so (command.Update table row) is h = absurd (not_true is)
   told_so (command.Delete table key) is h = absurd (not_true is)
@@ -180,7 +183,7 @@ module _ (shape : Shape) (worker : Bool) (session : ℕ) (own : Option OwnTransa
 -- the line of an upkeep command is one of upkeep
 pub upkeep_is_told_so : UpkeepIsToldSo
 upkeep_is_told_so shape worker session front call line upkeep replied is tells =
-    told_so shape worker session (own_after front) call.made call.told line replied tells call.command upkeep is
+    told_so shape worker session (own_after front) call.made call.told call.reads line replied tells call.command upkeep is
 
 -- ---- replies of a log
 

@@ -1,5 +1,5 @@
 -- What each event makes of the newest stamp and the count of commits.
-use Rattle.std.proofs.Common.{◌≡◌, ℕ, ◌+◌, ◌<◌, ◌^◌, Bool, true, false, cond, List, [], ◌∷◌, is_none, refl, sym, subst, arith}
+use Rattle.std.proofs.Common.{◌≡◌, ℕ, ◌+◌, ◌<◌, ◌^◌, Bool, true, false, cond, List, [], ◌∷◌, Option, None, Some, is_none, refl, sym, subst, arith}
 use Rattle.std.specs.Prelude.{Result, Ok, Err}
 use Rattle.block_spec.specs.Bodies.{seal_fault, sealed}
 use Rattle.block_spec.specs.declared.change.Change.{Change}
@@ -11,11 +11,13 @@ use Rattle.event_spec.specs.declared.event.Event.TheVariants as event
 use Rattle.event_spec.specs.declared.event.MovePair.{MovePair}
 use Rattle.event_spec.specs.declared.own.OwnKey.{OwnKey}
 use Rattle.event_spec.specs.declared.reply.WriteFault.{WriteFault}
-use Rattle.event_spec.specs.Effects.{CoreEvent, after_change, after_insert, after_move, at_both, change_judged, changes_of, closed, effect, held_pairs, insert_judged, is_some_write, numbered}
+use Rattle.event_spec.specs.declared.own.OwnTransaction.{OwnTransaction}
+use Rattle.event_spec.specs.Effects.{CoreEvent, after_change, after_insert, after_judged, after_move, at_both, change_judged, changes_of, closed, effect, held_pairs, insert_judged, is_some_write, numbered, stale_in}
 use Rattle.event_spec.specs.Judged.{differences}
 use Rattle.event_spec.specs.Lawful.{IsLawful}
 use Rattle.event_spec.specs.Parts.{Parts, Shape, nothing, body_at, desk_at, is_head}
-use Rattle.isolation_spec.specs.Contents.{key_of}
+use Rattle.isolation_spec.specs.declared.read.Read.{Read}
+use Rattle.isolation_spec.specs.Contents.{PlaceMap, key_of}
 use Rattle.core_laws.proofs.Logs.Opening.{desk}
 use Rattle.txn_desk.specs.Desk.{DeskState}
 use Rattle.run_laws.specs.Counts.Numbers.{IsNarrow, NumbersAreNarrow, OpensNarrow}
@@ -47,9 +49,14 @@ module _ (sh : Shape) (s : Parts) where
 
   -- Where there is room for one more stamp, a commit leaves the newest below its bound, and the
   -- commits no more than the stamps.
-  commit_narrow : (wrote : Bool) (q : ℕ) (x : DeskState) → x.newest + 1 < 2 ^ 63 → IsNarrow x → IsNarrow (closed q (cond wrote (numbered x) x))
-  commit_narrow true q x low is = let c = is.commits in record { commits = omega (arith, c); stamps = low }
-  commit_narrow false q x low is = record { commits = is.commits; stamps = is.stamps }
+  commit_narrow : (wrote : Bool) (writes : PlaceMap ℕ) (q : ℕ) (x : DeskState) → x.newest + 1 < 2 ^ 63 → IsNarrow x → IsNarrow (closed q (cond wrote (numbered writes x) x))
+  commit_narrow true writes q x low is = let c = is.commits in record { commits = omega (arith, c); stamps = low }
+  commit_narrow false writes q x low is = record { commits = is.commits; stamps = is.stamps }
+
+  -- So does one that may be refused, which then leaves it.
+  judged_narrow : (own : OwnTransaction) (stale : Option (Read × ℕ)) (x : DeskState) → x.newest + 1 < 2 ^ 63 → IsNarrow x → IsNarrow ((after_judged sh s own stale).desk x)
+  judged_narrow own (Some stale) x low is = is
+  judged_narrow own None x low is = commit_narrow (is_some_write own.writes) own.writes own.session x low is
 
   -- What each lawful event makes of the desk leaves the stamps and commits narrow.
   event_narrow : (e : CoreEvent) → IsLawful sh e s → IsNarrow (desk_at sh s) → IsNarrow ((changes_of sh s e).desk (desk_at sh s))
@@ -59,7 +66,7 @@ module _ (sh : Shape) (s : Parts) where
   event_narrow (event.Update own u row) lawful is = subst IsNarrow (sym (change_desk own u (λ old. change.Patch (differences 0 old row)) (change_judged sh s own u (key_of row)) (desk_at sh s))) is
   event_narrow (event.Delete own u key) lawful is = subst IsNarrow (sym (change_desk own u (λ old. change.Gone) (change_judged sh s own u key) (desk_at sh s))) is
   event_narrow (event.Read own u c) lawful is = is
-  event_narrow (event.Commit own) lawful is = commit_narrow (is_some_write own.writes) own.session (desk_at sh s) lawful.1 is
+  event_narrow (event.Commit own reads) lawful is = judged_narrow own (stale_in sh s own reads) (desk_at sh s) lawful.1.0 is
   event_narrow (event.Abort own) lawful is = record { commits = is.commits; stamps = is.stamps }
   event_narrow event.Oldest lawful is = is
   event_narrow (event.Observe u c) lawful is = is

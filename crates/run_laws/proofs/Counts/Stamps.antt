@@ -20,13 +20,15 @@ use Rattle.event_spec.specs.declared.event.MovePair.{MovePair}
 use Rattle.event_spec.specs.declared.own.OwnKey.{OwnKey}
 use Rattle.event_spec.specs.declared.reply.Reply.TheVariants as reply
 use Rattle.event_spec.specs.declared.reply.WriteFault.{WriteFault}
-use Rattle.event_spec.specs.Effects.{CoreEvent, effect, after_change, after_insert, after_move, at_both, change_judged, changes_of, held_pairs, insert_judged, is_some_write, moved_row}
+use Rattle.event_spec.specs.declared.own.OwnTransaction.{OwnTransaction}
+use Rattle.event_spec.specs.Effects.{CoreEvent, after_change, after_insert, after_judged, after_move, at_both, change_judged, changes_of, effect, held_pairs, insert_judged, is_some_write, moved_row, stale_in}
 use Rattle.event_spec.specs.Judged.{differences}
 use Rattle.event_spec.specs.Lawful.{IsLawful}
 use Rattle.event_spec.specs.Parts.{Parts, Shape, BodyOf, nothing, body_at, body_from, desk_at, is_head, names, slot_at, slots_of}
 use Rattle.event_spec.specs.Replay.{opening_part}
 use Rattle.event_spec.specs.Replies.{reply_to, reply_to_image, reply_to_seal}
 use Rattle.event_spec.specs.Sound.{Sound}
+use Rattle.isolation_spec.specs.declared.read.Read.{Read}
 use Rattle.isolation_spec.specs.Contents.{key_of}
 use Rattle.core_laws.proofs.Logs.Opening.{part_there}
 use Rattle.core_laws.proofs.Sound.Bodies.{true_false}
@@ -206,6 +208,11 @@ module _ (sh : Shape) (s : Parts) (t b : ℕ) where
   thaw_one (Sealed g) e = absurd (true_false (sym e))
   thaw_one (Imaged g) e = refl
 
+  -- A commit, refused or not, leaves a block's stamp and phase.
+  judged_keeps : (own : OwnTransaction) (stale : Option (Read × ℕ)) (x : Body) → Keeps x ((after_judged sh s own stale).body t b x)
+  judged_keeps own (Some stale) x = keeps x
+  judged_keeps own None x = commit_keeps (is_some_write own.writes) own.session ((desk_at sh s).newest + 1) ((desk_at sh s).commits + 1) x
+
   -- Each lawful event moves a block's stamp and phase on by its seals and its images.
   event_counts : (e : CoreEvent) → IsLawful sh e s → (x : Body) → x ≡ body_at sh s t b
       → Counts x ((changes_of sh s e).body t b x) (sealed_by t b e (reply_to sh s e)) (imaged_by t b e (reply_to sh s e))
@@ -215,7 +222,7 @@ module _ (sh : Shape) (s : Parts) (t b : ℕ) where
   event_counts (event.Update own u row) lawful x is = quietly x _ (change_keeps own u (λ old. change.Patch (differences 0 old row)) (change_judged sh s own u (key_of row)) x)
   event_counts (event.Delete own u key) lawful x is = quietly x _ (change_keeps own u (λ old. change.Gone) (change_judged sh s own u key) x)
   event_counts (event.Read own u c) lawful x is = quietly x x (keeps x)
-  event_counts (event.Commit own) lawful x is = quietly x _ (commit_keeps (is_some_write own.writes) own.session ((desk_at sh s).newest + 1) ((desk_at sh s).commits + 1) x)
+  event_counts (event.Commit own reads) lawful x is = quietly x _ (judged_keeps own (stale_in sh s own reads) x)
   event_counts (event.Abort own) lawful x is = quietly x _ (abort_keeps own.session x)
   event_counts event.Oldest lawful x is = quietly x x (keeps x)
   event_counts (event.Observe u c) lawful x is = quietly x _ (at_one u c (observed (is_head sh s u c)) t b x (λ e f. record { last = refl; phase = refl; loose = λ e. e }))
@@ -239,7 +246,7 @@ none_sealed t b (event.Insert own u row) = refl
 none_sealed t b (event.Update own u row) = refl
 none_sealed t b (event.Delete own u key) = refl
 none_sealed t b (event.Read own u c) = refl
-none_sealed t b (event.Commit own) = refl
+none_sealed t b (event.Commit own reads) = refl
 none_sealed t b (event.Abort own) = refl
 none_sealed t b event.Oldest = refl
 none_sealed t b (event.Observe u c) = refl
@@ -258,7 +265,7 @@ none_imaged t b (event.Insert own u row) = refl
 none_imaged t b (event.Update own u row) = refl
 none_imaged t b (event.Delete own u key) = refl
 none_imaged t b (event.Read own u c) = refl
-none_imaged t b (event.Commit own) = refl
+none_imaged t b (event.Commit own reads) = refl
 none_imaged t b (event.Abort own) = refl
 none_imaged t b event.Oldest = refl
 none_imaged t b (event.Observe u c) = refl

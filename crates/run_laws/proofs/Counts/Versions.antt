@@ -21,13 +21,15 @@ use Rattle.event_spec.specs.declared.event.MovePair.{MovePair}
 use Rattle.event_spec.specs.declared.own.OwnKey.{OwnKey}
 use Rattle.event_spec.specs.declared.reply.Reply.TheVariants as reply
 use Rattle.event_spec.specs.declared.reply.WriteFault.{WriteFault}
-use Rattle.event_spec.specs.Effects.{CoreEvent, after_change, after_insert, after_move, at_both, change_judged, changes_of, effect, held_pairs, insert_judged, is_some_write, moved_row}
+use Rattle.event_spec.specs.declared.own.OwnTransaction.{OwnTransaction}
+use Rattle.event_spec.specs.Effects.{CoreEvent, after_change, after_commit, after_insert, after_judged, after_move, at_both, change_judged, changes_of, effect, held_pairs, insert_judged, is_some_write, moved_row, stale_in}
 use Rattle.event_spec.specs.Judged.{differences}
 use Rattle.event_spec.specs.Lawful.{Among, HasBlock, IsLawful}
 use Rattle.event_spec.specs.Parts.{BodyOf, Changes, Parts, Shape, below, blocks_of, body_at, body_from, desk_at, each_changed, is_head, names, nothing, slot_at, slots_of, tables_of}
 use Rattle.event_spec.specs.Replay.{opening, opening_part}
-use Rattle.event_spec.specs.Replies.{reply_to, reply_to_write}
+use Rattle.event_spec.specs.Replies.{reply_to, reply_to_write, reply_to_commit}
 use Rattle.event_spec.specs.Sound.{Sound}
+use Rattle.isolation_spec.specs.declared.read.Read.{Read}
 use Rattle.isolation_spec.specs.Contents.{key_of}
 use Rattle.core_laws.proofs.Logs.Opening.{part_there}
 use Rattle.core_laws.proofs.Slots.Endings.{rolled_back_other}
@@ -38,7 +40,7 @@ use Rattle.undo_chain.specs.declared.undo.Undo.{Undo}
 use Rattle.undo_chain.specs.Entry.{is_at_most, is_own, is_stamped_by}
 use Rattle.undo_chain.specs.Stamped.{stamped}
 use Rattle.store_laws.specs.Room.{writes_told}
-use Rattle.run_laws.specs.Counts.Versions.{CountsVersions, OpensWithout, VersionsAreCounted, IdleOwnNone, dropped_by, entries_at, entries_in, is_of, is_stamped, own_entries, stamped_by, stamped_entries, total, written_by}
+use Rattle.run_laws.specs.Counts.Versions.{CountsVersions, OpensWithout, VersionsAreCounted, IdleOwnNone, commits_told, dropped_by, entries_at, entries_in, is_of, is_stamped, own_entries, stamped_by, stamped_entries, total, written_by}
 
 -- Numbers that are tested to be equal are.
 num : (a b : ℕ) → (a == b) ≡ true → a ≡ b
@@ -525,6 +527,15 @@ module _ (sh : Shape) (s : Parts) (ok : Sound sh s) where
   in_stamped : (at : ℕ) (row : Row) (x : Slot) → counts is_stamped (moved_in at row x) ≤ counts is_stamped x + 1
   in_stamped at row x = pushed is_stamped (record { session = 0; stamp = Some at; number = 0; kind = Rattle.undo_chain.specs.declared.undo.UndoKind.TheVariants.MoveIn; before = Rattle.block_spec.specs.declared.change.Before.TheVariants.Empty }) x.entries
 
+  -- A commit stamps its session's own entries, and one that is refused none.
+  judged_stamps : (own : OwnTransaction) (stale : Option (Read × ℕ))
+      → stamped_entries sh (each_changed (after_judged sh s own stale) (names sh) s) + 0 ≤ stamped_entries sh s + commits_told (reply_to_commit sh s own stale) (own_entries sh s own.session)
+  judged_stamps own (Some stale) = let h = fewer is_stamped nothing (λ t b has. omega arith) in omega (arith, h)
+  judged_stamps own None =
+      let h = changed is_stamped (after_commit sh s own) (λ t b. 0) (entries_at sh (is_of own.session) s)
+      (λ t b has. commit_stamped (is_some_write own.writes) own.session ((desk_at sh s).newest + 1) ((desk_at sh s).commits + 1) (body_at sh s t b)) in
+      let z = total_none sh (λ t b. 0) (λ t b has. refl) in omega (arith, h, z)
+
   -- Each lawful event keeps the bound of the entries with a stamp.
   event_stamps : (e : CoreEvent) → IsLawful sh e s → Stamps e
   event_stamps (event.Begin q) lawful = quietly (event.Begin q) (fewer is_stamped (changes_of sh s (event.Begin q)) (λ t b has. omega arith)) refl
@@ -536,10 +547,7 @@ module _ (sh : Shape) (s : Parts) (ok : Sound sh s) where
   event_stamps (event.Delete own u key) lawful = quietly (event.Delete own u key)
       (write_stamped (changes_of sh s (event.Delete own u key)) (change_judged sh s own u key) (change_fewer is_stamped 0 own u (λ old. change.Gone) (change_judged sh s own u key) (put_stamped own.session))) refl
   event_stamps (event.Read own u c) lawful = quietly (event.Read own u c) (fewer is_stamped nothing (λ t b has. omega arith)) refl
-  event_stamps (event.Commit own) lawful =
-      let h = changed is_stamped (changes_of sh s (event.Commit own)) (λ t b. 0) (entries_at sh (is_of own.session) s)
-      (λ t b has. commit_stamped (is_some_write own.writes) own.session ((desk_at sh s).newest + 1) ((desk_at sh s).commits + 1) (body_at sh s t b)) in
-      let z = total_none sh (λ t b. 0) (λ t b has. refl) in omega (arith, h, z)
+  event_stamps (event.Commit own reads) lawful = judged_stamps own (stale_in sh s own reads)
   event_stamps (event.Abort own) lawful = quietly (event.Abort own) (fewer is_stamped (changes_of sh s (event.Abort own)) (λ t b has. abort_kept is_stamped own.session (body_at sh s t b))) refl
   event_stamps event.Oldest lawful = quietly event.Oldest (fewer is_stamped nothing (λ t b has. omega arith)) refl
   event_stamps (event.Observe u c) lawful = quietly (event.Observe u c) (quiet_fewer is_stamped (changes_of sh s (event.Observe u c)) u c (observed (is_head sh s u c)) (λ t b y. refl) (λ y. omega arith)) refl
@@ -588,6 +596,11 @@ module _ (sh : Shape) (s : Parts) (ok : Sound sh s) where
     in_own : (at : ℕ) (row : Row) (x : Slot) → counts (is_of r) (moved_in at row x) ≤ counts (is_of r) x + 0
     in_own at row x = pushed (is_of r) (record { session = 0; stamp = Some at; number = 0; kind = Rattle.undo_chain.specs.declared.undo.UndoKind.TheVariants.MoveIn; before = Rattle.block_spec.specs.declared.change.Before.TheVariants.Empty }) x.entries
 
+    judged_owns : (own : OwnTransaction) (stale : Option (Read × ℕ)) → Fewer (is_of r) (after_judged sh s own stale) 0
+    judged_owns own (Some stale) = fewer (is_of r) nothing (λ t b has. omega arith)
+    judged_owns own None = fewer (is_of r) (after_commit sh s own)
+        (λ t b has. commit_own (is_some_write own.writes) own.session ((desk_at sh s).newest + 1) ((desk_at sh s).commits + 1) (body_at sh s t b))
+
     event_owns : (e : CoreEvent) → IsLawful sh e s → Owns e
     event_owns (event.Begin q) lawful = fewer (is_of r) (changes_of sh s (event.Begin q)) (λ t b has. omega arith)
     event_owns (event.Get own u key) lawful = fewer (is_of r) nothing (λ t b has. omega arith)
@@ -598,8 +611,7 @@ module _ (sh : Shape) (s : Parts) (ok : Sound sh s) where
     event_owns (event.Delete own u key) lawful = write_own own.session (changes_of sh s (event.Delete own u key)) (change_judged sh s own u key)
         (change_fewer (is_of r) (one (own.session == r)) own u (λ old. change.Gone) (change_judged sh s own u key) (put_own own.session))
     event_owns (event.Read own u c) lawful = fewer (is_of r) nothing (λ t b has. omega arith)
-    event_owns (event.Commit own) lawful = fewer (is_of r) (changes_of sh s (event.Commit own))
-        (λ t b has. commit_own (is_some_write own.writes) own.session ((desk_at sh s).newest + 1) ((desk_at sh s).commits + 1) (body_at sh s t b))
+    event_owns (event.Commit own reads) lawful = judged_owns own (stale_in sh s own reads)
     event_owns (event.Abort own) lawful = fewer (is_of r) (changes_of sh s (event.Abort own)) (λ t b has. abort_kept (is_of r) own.session (body_at sh s t b))
     event_owns event.Oldest lawful = fewer (is_of r) nothing (λ t b has. omega arith)
     event_owns (event.Observe u c) lawful = quiet_fewer (is_of r) (changes_of sh s (event.Observe u c)) u c (observed (is_head sh s u c)) (λ t b y. refl) (λ y. omega arith)
@@ -621,7 +633,7 @@ versions_are_counted sh s made ok lawful = go made.refused
     memory_drops (event.Update own u row) = refl
     memory_drops (event.Delete own u key) = refl
     memory_drops (event.Read own u c) = refl
-    memory_drops (event.Commit own) = refl
+    memory_drops (event.Commit own reads) = refl
     memory_drops (event.Abort own) = refl
     memory_drops event.Oldest = refl
     memory_drops (event.Observe u c) = refl

@@ -11,6 +11,7 @@ use Rattle.block_spec.specs.declared.phase.Phase.{Phase}
 use Rattle.block_spec.specs.declared.phase.Phase.TheVariants.{Loose, Sealed, Imaged}
 use Rattle.block_spec.specs.declared.phase.SealFault.{SealFault}
 use Rattle.block_spec.specs.Slots.{Row}
+use Rattle.core_laws.proofs.Events.Plain.{plain}
 use Rattle.core_laws.specs.Events.Laws.{IsStep, command_in}
 use Rattle.event_spec.specs.declared.event.Event.TheVariants as event
 use Rattle.event_spec.specs.declared.own.OwnKey.{OwnKey}
@@ -18,16 +19,18 @@ use Rattle.event_spec.specs.declared.own.OwnTransaction.{OwnTransaction}
 use Rattle.event_spec.specs.declared.reply.Reply.TheVariants as reply
 use Rattle.event_spec.specs.declared.reply.WriteFault.{WriteFault}
 use Rattle.event_spec.specs.declared.reply.WriteFault.TheVariants as refusal
-use Rattle.event_spec.specs.Effects.{CoreEvent, change_judged, found, held_pairs, holds, insert_judged, is_some_write}
+use Rattle.event_spec.specs.Effects.{CoreEvent, change_judged, found, held_pairs, holds, insert_judged, is_some_write, stale_in}
 use Rattle.event_spec.specs.Judged.{current_place, fault_of, freezing_of, judged, newer_by, next_place}
-use Rattle.event_spec.specs.Lawful.{HasBlock, IsLawful, takes_memory}
+use Rattle.event_spec.specs.Lawful.{HasBlock, IsLawful, reads_handed, takes_memory}
 use Rattle.event_spec.specs.Parts.{Parts, Shape, blocks_of, body_at, desk_at, head_at, is_head, places_at, slot_at, slots_of}
 use Rattle.event_spec.specs.Plans.{plan_of}
-use Rattle.event_spec.specs.Replies.{reply_to, reply_to_image, reply_to_seal, reply_to_write}
+use Rattle.event_spec.specs.Replies.{reply_to, reply_to_commit, reply_to_image, reply_to_seal, reply_to_write}
 use Rattle.event_spec.specs.Sound.{IsShape}
 use Rattle.isolation_spec.specs.Contents.{key_of}
+use Rattle.isolation_spec.specs.declared.read.Read.{Read}
 use Rattle.isolation_spec.specs.Machine.{IsolationMachine}
 use Rattle.outcome_spec.specs.Entries.{Entry}
+use Rattle.isolation_spec.specs.Reads.{ReadSet}
 use Rattle.timeline_spec.specs.Forms.{IsReplyWithout, MayStand}
 use Rattle.workload_spec.specs.declared.command.Command.{Command}
 use Rattle.workload_spec.specs.declared.command.Command.TheVariants as command
@@ -39,7 +42,9 @@ use Rattle.run_spec.specs.Calls.{line_to, may_lack_memory}
 use Rattle.run_spec.specs.Occurrences.{Occurrence}
 use Rattle.run_spec.specs.Opened.{least_written}
 use Rattle.run_spec.specs.Ran.{shape_of}
-use Rattle.run_spec.specs.Told.{cause_told, refusal_of, told_by}
+use Rattle.run_spec.specs.Told.{cause_told, refusal_of, stale_of, told_by}
+use Rattle.run_laws.proofs.Moments.Reads.{ReadsAreKeys}
+use Rattle.run_laws.proofs.Explained.Staling.{stale_names}
 use Rattle.run_laws.specs.Told.Laws.{TellsAt, TellsMove, is_quiet}
 use Rattle.run_laws.proofs.Told.Tells.{not_silent}
 use Rattle.run_laws.proofs.Explained.Conflicting.{Small, delete_small, insert_small, update_small}
@@ -78,10 +83,12 @@ needs_stands asked (Some t) line is e = absurd (none_is line e)
 
 -- a refusal may stand where its command is due
 pub refusal_stands : (asked : Command) (own : Option OwnTransaction) (line : Said) → KeysFit own → refusal_of asked own ≡ Some line → MayStand asked line
-refusal_stands command.Begin None line fit e = absurd (none_is line e)
-refusal_stands command.Begin (Some t) line fit e = inl (sym (same_line said.InTransaction line e))
+refusal_stands (command.Begin checked) None line fit e = absurd (none_is line e)
+refusal_stands (command.Begin checked) (Some t) line fit e = inl (sym (same_line said.InTransaction line e))
 refusal_stands (command.Get table key) own line fit e = needs_stands (command.Get table key) own line refl e
 refusal_stands (command.Scan table) own line fit e = needs_stands (command.Scan table) own line refl e
+refusal_stands (command.Range table low high) own line fit e = needs_stands (command.Range table low high) own line refl e
+refusal_stands (command.Total table column low high) own line fit e = needs_stands (command.Total table column low high) own line refl e
 refusal_stands (command.Insert table row) own line fit e = needs_stands (command.Insert table row) own line refl e
 refusal_stands (command.Update table row) own line fit e = needs_stands (command.Update table row) own line refl e
 refusal_stands (command.Delete table key) own line fit e = needs_stands (command.Delete table key) own line refl e
@@ -101,9 +108,11 @@ refusal_stands (command.Export table) (Some t) line fit e = go (least_written ta
 
 -- so may the lack of memory, where the command may lack it
 pub memory_stands : (asked : Command) → may_lack_memory asked ≡ true → MayStand asked said.Memory
-memory_stands command.Begin e = absurd (true_false (sym e))
+memory_stands (command.Begin checked) e = absurd (true_false (sym e))
 memory_stands (command.Get table key) e = inl tt
 memory_stands (command.Scan table) e = inl tt
+memory_stands (command.Range table low high) e = inl tt
+memory_stands (command.Total table column low high) e = inl tt
 memory_stands (command.Insert table row) e = inl tt
 memory_stands (command.Update table row) e = inl tt
 memory_stands (command.Delete table key) e = inl tt
@@ -239,7 +248,7 @@ module _ (script : Script) (few_seats : script.sessions + script.workers < 2 ^ 3
   -- What an insert tells may stand where it is due.
   insert_stands : (own : OwnKey) (table : ℕ) (row : Row) (told : Option Said) (refused : Bool) (r : Result ℕ WriteFault) → insert_judged (shape_of script) parts own table (key_of row) ≡ r
       → told ≡ line_to worker (told_by table 0 (cond refused reply.Memory (reply_to_write r)))
-      → IsStep (command_in (event.Insert own table row)) at (cond refused reply.Memory (reply_to_write r)) next
+      → IsStep (command_in (event.Insert own table row)) (reads_handed (event.Insert own table row)) at (cond refused reply.Memory (reply_to_write r)) next
       → Stands (command.Insert table row) told
   insert_stands own table row told true r is tells step = stands (command.Insert table row) told said.Memory (tells ∙ not_silent worker said.Memory refl) (inl tt)
   insert_stands own table row told false (Ok p) is tells step = stands (command.Insert table row) told said.Accepted (tells ∙ not_silent worker said.Accepted refl) (inl tt)
@@ -261,16 +270,16 @@ module _ (script : Script) (few_seats : script.sessions + script.workers < 2 ^ 3
       → change_judged (shape_of script) parts own table key ≡ r
       → told ≡ line_to worker (told_by table 0 (cond refused reply.Memory (reply_to_write r)))
       → Small script parts at held.follows held.ok.sessions own.session what
-      → IsStep (Some (command_of own.session what)) at (cond refused reply.Memory (reply_to_write r)) next
+      → IsStep (Some (command_of own.session what)) None at (cond refused reply.Memory (reply_to_write r)) next
       → ((b g : ℕ) → change_judged (shape_of script) parts own table key ≡ Err (refusal.Freezing b g) → (b < 2 ^ 32) × (g < 2 ^ 32))
       → Stands asked told
   change_stands asked own table key what told true r may is tells small step freezing = stands asked told said.Memory (tells ∙ not_silent worker said.Memory refl) (may said.Memory tt)
   change_stands asked own table key what told false (Ok p) may is tells small step freezing = stands asked told said.Accepted (tells ∙ not_silent worker said.Accepted refl) (may said.Accepted tt)
   change_stands asked own table key what told false (Err (refusal.ConflictSession q)) may is tells small step freezing =
-      let s = small.0 q next step in
+      let s = small.0 q next (sym (plain at (command_of own.session what)) ∙ step) in
       stands asked told (said.ConflictSession q) (tells ∙ not_silent worker (said.ConflictSession q) refl) (may (said.ConflictSession q) (let w : q < 2 ^ 32 = omega (arith, s, few_seats) in w))
   change_stands asked own table key what told false (Err (refusal.ConflictCommit n)) may is tells small step freezing =
-      let s = small.1 n next step in
+      let s = small.1 n next (sym (plain at (command_of own.session what)) ∙ step) in
       let c = commits_few in
       stands asked told (said.ConflictCommit n) (tells ∙ not_silent worker (said.ConflictCommit n) refl) (may (said.ConflictCommit n) (let w : n < 2 ^ 64 = omega (arith, s, c) in w))
   change_stands asked own table key what told false (Err refusal.Missing) may is tells small step freezing = stands asked told said.Missing (tells ∙ not_silent worker said.Missing refl) (may said.Missing tt)
@@ -349,51 +358,68 @@ module _ (script : Script) (few_seats : script.sessions + script.workers < 2 ^ 3
       let inside = has.1 in let most = few table in
       (omega (arith, inside, most), omega (arith, last, small))
 
+  -- What a commit tells, refused or not, may stand where it is due.
+  commit_stands : (own : OwnTransaction) (reads : Option ReadSet) (told : Option Said) (stale : Option (Read × ℕ)) → ReadsAreKeys reads
+      → told ≡ line_to worker (told_by 0 0 (reply_to_commit (shape_of script) parts own stale))
+      → IsStep (command_in (event.Commit own reads)) reads at (reply_to_commit (shape_of script) parts own stale) next
+      → Stands command.Commit told
+  commit_stands own reads told (Some stale) keys tells step =
+      let names = stale_names at next reads own.session stale.0 stale.1 keys step in
+      let small = names.small in
+      let counted = held.follows.follows.desked.counted in
+      let c = commits_few in
+      stands command.Commit told (said.Stale (stale_of stale.0) stale.1) (tells ∙ not_silent worker (said.Stale (stale_of stale.0) stale.1) refl)
+      (inl (names.keys, let w : stale.1 < 2 ^ 64 = omega (arith, small, counted, c) in w))
+  commit_stands own reads told None keys tells step = go (is_some_write own.writes) refl
+    where
+      go : (b : Bool) → is_some_write own.writes ≡ b → Stands command.Commit told
+      go true e =
+          let c = commits_few in
+          let number : ℕ = (desk_at (shape_of script) parts).commits + 1 in
+          stands command.Commit told (said.Committed (Some number))
+          (tells ∙ ap (λ b. line_to worker (Some (said.Committed (cond b (Some number) None)))) e ∙ not_silent worker (said.Committed (Some number)) refl)
+          (inl (let w : number < 2 ^ 64 = omega (arith, c) in w))
+      go false e = stands command.Commit told (said.Committed None)
+          (tells ∙ ap (λ b. line_to worker (Some (said.Committed (cond b (Some ((desk_at (shape_of script) parts).commits + 1)) None)))) e ∙ not_silent worker (said.Committed None) refl)
+          (inl tt)
+
   -- What is told at an event that is not quiet.
   pub event_stands : (is_shape : IsShape (shape_of script)) (few_blocks : (t : ℕ) → blocks_of (shape_of script) t < 2 ^ 32) (e : CoreEvent) (refused : Bool) (made : List Occurrence) (asked : Command) (told : Option Said)
       → IsLawful (shape_of script) e parts → (refused ≡ true → takes_memory e ≡ true)
-      → IsStep (command_in e) at (cond refused reply.Memory (reply_to (shape_of script) parts e)) next
+      → IsStep (command_in e) (reads_handed e) at (cond refused reply.Memory (reply_to (shape_of script) parts e)) next
       → TellsAt worker made e (cond refused reply.Memory (reply_to (shape_of script) parts e)) asked told
       → is_quiet e ≡ false
+      → (asked ≡ command.Commit → ReadsAreKeys (reads_handed e))
       → Stands asked told
-  event_stands is_shape few (event.Begin session) true made asked told lawful memory step h q = absurd (true_false (sym (memory refl)))
-  event_stands is_shape few (event.Begin session) false made asked told lawful memory step h q =
+  event_stands is_shape few (event.Begin session) true made asked told lawful memory step h q keys = absurd (true_false (sym (memory refl)))
+  event_stands is_shape few (event.Begin session) false made asked told lawful memory step h q keys =
       let c = commits_few in
       stands asked told (said.At (desk_at (shape_of script) parts).commits) (h.1 ∙ not_silent worker (said.At (desk_at (shape_of script) parts).commits) refl)
-      (subst (λ a. MayStand a (said.At (desk_at (shape_of script) parts).commits)) (sym h.0) (inr (let w : (desk_at (shape_of script) parts).commits < 2 ^ 64 = omega (arith, c) in w)))
-  event_stands is_shape few (event.Get own table key) refused made asked told lawful memory step h q = absurd (true_false q)
-  event_stands is_shape few (event.Insert own table row) refused made asked told lawful memory step h q =
+      (subst (λ a. MayStand a (said.At (desk_at (shape_of script) parts).commits)) (sym h.0.1) (inr (let w : (desk_at (shape_of script) parts).commits < 2 ^ 64 = omega (arith, c) in w)))
+  event_stands is_shape few (event.Get own table key) refused made asked told lawful memory step h q keys = absurd (true_false q)
+  event_stands is_shape few (event.Insert own table row) refused made asked told lawful memory step h q keys =
       subst (λ a. Stands a told) (sym h.0) (insert_stands own table row told refused (insert_judged (shape_of script) parts own table (key_of row)) refl h.1 step)
-  event_stands is_shape few (event.Update own table row) refused made asked told lawful memory step h q =
+  event_stands is_shape few (event.Update own table row) refused made asked told lawful memory step h q keys =
       subst (λ a. Stands a told) (sym h.0) (change_stands (command.Update table row) own table (key_of row) (act.Update table row) told refused (change_judged (shape_of script) parts own table (key_of row))
       (λ line may. inl may) refl h.1 (update_small script parts at held.follows held.ok.sessions own.session table row) step
       (λ b g is. sealed_small few table (key_of row) b g (((freezes_exactly (shape_of script) parts own table at b g is_shape held.ok held.follows).0 row lawful).0 (ap reply_to_write is)).1))
-  event_stands is_shape few (event.Delete own table key) refused made asked told lawful memory step h q =
+  event_stands is_shape few (event.Delete own table key) refused made asked told lawful memory step h q keys =
       subst (λ a. Stands a told) (sym h.0) (change_stands (command.Delete table key) own table key (act.Delete table key) told refused (change_judged (shape_of script) parts own table key)
       (λ line may. inl may) refl h.1 (delete_small script parts at held.follows held.ok.sessions own.session table key) step
       (λ b g is. sealed_small few table key b g (((freezes_exactly (shape_of script) parts own table at b g is_shape held.ok held.follows).1 key lawful).0 (ap reply_to_write is)).1))
-  event_stands is_shape few (event.Read own table block) refused made asked told lawful memory step h q = absurd (true_false q)
-  event_stands is_shape few (event.Commit own) true made asked told lawful memory step h q = absurd (true_false (sym (memory refl)))
-  event_stands is_shape few (event.Commit own) false made asked told lawful memory step h q = go (is_some_write own.writes) refl
-    where
-      go : (b : Bool) → is_some_write own.writes ≡ b → Stands asked told
-      go true e =
-          let c = commits_few in
-          stands asked told (said.Committed (Some ((desk_at (shape_of script) parts).commits + 1)))
-          (h.1 ∙ ap (λ b. line_to worker (Some (said.Committed (cond b (Some ((desk_at (shape_of script) parts).commits + 1)) None)))) e ∙ not_silent worker (said.Committed (Some ((desk_at (shape_of script) parts).commits + 1))) refl)
-          (subst (λ a. MayStand a (said.Committed (Some ((desk_at (shape_of script) parts).commits + 1)))) (sym h.0) (inl (let w : (desk_at (shape_of script) parts).commits + 1 < 2 ^ 64 = omega (arith, c) in w)))
-      go false e = stands asked told (said.Committed None)
-          (h.1 ∙ ap (λ b. line_to worker (Some (said.Committed (cond b (Some ((desk_at (shape_of script) parts).commits + 1)) None)))) e ∙ not_silent worker (said.Committed None) refl)
-          (subst (λ a. MayStand a (said.Committed None)) (sym h.0) (inl tt))
-  event_stands is_shape few (event.Abort own) true made asked told lawful memory step h q = absurd (true_false (sym (memory refl)))
-  event_stands is_shape few (event.Abort own) false made asked told lawful memory step h q = stands asked told said.Aborted (h.1 ∙ not_silent worker said.Aborted refl) (subst (λ a. MayStand a said.Aborted) (sym h.0) (inl refl))
-  event_stands is_shape few event.Oldest refused made asked told lawful memory step h q = absurd (true_false q)
-  event_stands is_shape few (event.Observe table block) refused made asked told lawful memory step h q = absurd (true_false q)
-  event_stands is_shape few (event.Prune table block oldest) refused made asked told lawful memory step h q = absurd (true_false q)
-  event_stands is_shape few (event.Look table block) refused made asked told lawful memory step h q = absurd (true_false q)
-  event_stands is_shape few (event.Move table moves) refused made asked told lawful memory step h q = subst (λ a. Stands a told) (sym h.0) (move_stands table moves made told refused h.1 h.2)
-  event_stands is_shape few (event.Seal table block) refused made asked told lawful memory step h q =
+  event_stands is_shape few (event.Read own table block) refused made asked told lawful memory step h q keys = absurd (true_false q)
+  event_stands is_shape few (event.Commit own reads) true made asked told lawful memory step h q keys = absurd (true_false (sym (memory refl)))
+  event_stands is_shape few (event.Commit own reads) false made asked told lawful memory step h q keys =
+      subst (λ a. Stands a told) (sym h.0) (commit_stands own reads told (stale_in (shape_of script) parts own reads) (keys h.0) h.1 step)
+  event_stands is_shape few (event.Abort own) true made asked told lawful memory step h q keys = absurd (true_false (sym (memory refl)))
+  event_stands is_shape few (event.Abort own) false made asked told lawful memory step h q keys = stands asked told said.Aborted (h.1 ∙ not_silent worker said.Aborted refl) (subst (λ a. MayStand a said.Aborted) (sym h.0) (inl refl))
+  event_stands is_shape few event.Oldest refused made asked told lawful memory step h q keys = absurd (true_false q)
+  event_stands is_shape few (event.Observe table block) refused made asked told lawful memory step h q keys = absurd (true_false q)
+  event_stands is_shape few (event.Prune table block oldest) refused made asked told lawful memory step h q keys = absurd (true_false q)
+  event_stands is_shape few (event.Look table block) refused made asked told lawful memory step h q keys = absurd (true_false q)
+  event_stands is_shape few (event.Move table moves) refused made asked told lawful memory step h q keys = subst (λ a. Stands a told) (sym h.0) (move_stands table moves made told refused h.1 h.2)
+  event_stands is_shape few (event.Seal table block) refused made asked told lawful memory step h q keys =
       subst (λ a. Stands a told) (sym h.0) (seal_stands table block told refused lawful.1 (λ r. true_false (sym (memory r))) h.1)
-  event_stands is_shape few (event.Image table block image) refused made asked told lawful memory step h q =
+  event_stands is_shape few (event.Image table block image) refused made asked told lawful memory step h q keys =
       subst (λ a. Stands a told) (sym h.0) (image_stands is_shape table block image told refused lawful.1.0 h.1)
-  event_stands is_shape few (event.Thaw table block) refused made asked told lawful memory step h q = absurd (true_false q)
+  event_stands is_shape few (event.Thaw table block) refused made asked told lawful memory step h q keys = absurd (true_false q)

@@ -15,11 +15,13 @@ use Rattle.event_spec.specs.declared.own.OwnTransaction.{OwnTransaction}
 use Rattle.event_spec.specs.declared.reply.Reply.TheVariants as reply
 use Rattle.event_spec.specs.declared.reply.WriteFault.{WriteFault}
 use Rattle.event_spec.specs.declared.reply.WriteFault.TheVariants as refusal
-use Rattle.event_spec.specs.Effects.{CoreEvent, change_judged, insert_judged}
+use Rattle.event_spec.specs.Effects.{CoreEvent, change_judged, insert_judged, stale_in}
 use Rattle.event_spec.specs.Lawful.{session_of, takes_memory}
 use Rattle.event_spec.specs.Parts.{Parts, Shape, body_at, desk_at, is_head}
-use Rattle.event_spec.specs.Replies.{CoreReply, reply_to, reply_to_image, reply_to_seal, reply_to_write}
+use Rattle.event_spec.specs.Replies.{CoreReply, reply_to, reply_to_commit, reply_to_image, reply_to_seal, reply_to_write}
 use Rattle.isolation_spec.specs.Contents.{key_of}
+use Rattle.isolation_spec.specs.declared.read.Read.{Read}
+use Rattle.isolation_spec.specs.Reads.{ReadSet}
 use Rattle.outcome_spec.specs.Entries.{Entry, is_commit, is_end, is_same, shown_in}
 use Rattle.outcome_spec.specs.Forms.{is_silent, is_upkeep, is_worker}
 use Rattle.outcome_spec.specs.Runs.{accepted_write, write_of, writes_committed_in}
@@ -35,7 +37,7 @@ use Rattle.run_spec.specs.Calls.{line_to}
 use Rattle.run_spec.specs.Occurrences.{Occurrence, replies_in, under}
 use Rattle.run_spec.specs.Opened.{own_after, own_behind}
 use Rattle.run_spec.specs.Ran.{shape_of}
-use Rattle.run_spec.specs.Told.{dropped_told, moved_told, told_by}
+use Rattle.run_spec.specs.Told.{dropped_told, moved_told, stale_of, told_by}
 use Rattle.run_laws.specs.Told.Laws.{TellsAt, TellsMove, TellsQuietly, is_plain, is_quiet}
 use Rattle.run_laws.proofs.Told.Tells.{not_silent}
 use Rattle.run_laws.specs.Moments.Laws.{command_told}
@@ -79,7 +81,7 @@ dropped_so (event.Insert own table row) r = refl
 dropped_so (event.Update own table row) r = refl
 dropped_so (event.Delete own table key) r = refl
 dropped_so (event.Read own table block) r = refl
-dropped_so (event.Commit own) r = refl
+dropped_so (event.Commit own reads) r = refl
 dropped_so (event.Abort own) r = refl
 dropped_so event.Oldest r = refl
 dropped_so (event.Observe table block) r = refl
@@ -107,6 +109,8 @@ plain_none said.NoTransaction e = (refl, refl)
 plain_none (said.Found row) e = (refl, refl)
 plain_none said.Absent e = (refl, refl)
 plain_none (said.Scanned rows) e = (refl, refl)
+plain_none (said.Totalled count sum) e = (refl, refl)
+plain_none (said.Stale what number) e = (refl, refl)
 plain_none said.Accepted e = absurd (true_false (sym e))
 plain_none (said.ConflictSession session) e = (refl, refl)
 plain_none (said.ConflictCommit number) e = (refl, refl)
@@ -189,6 +193,7 @@ tells worker t b (reply.Refused (refusal.Freezing c g)) = tells_line worker t b 
 tells worker t b (reply.Refused (refusal.Full n)) = tells_line worker t b (reply.Refused (refusal.Full n)) said.Full refl refl (λ e. refl)
 tells worker t b (reply.Rows rows) = tells_none worker t b (reply.Rows rows) refl
 tells worker t b (reply.Shared rows) = tells_none worker t b (reply.Shared rows) refl
+tells worker t b (reply.Stale what n) = tells_line worker t b (reply.Stale what n) (said.Stale (Rattle.run_spec.specs.Told.stale_of what) n) refl refl (λ e. refl)
 tells worker t b (reply.Committed n) = tells_line worker t b (reply.Committed n) (said.Committed n) refl refl (λ e. absurd (true_false e))
 tells worker t b reply.Aborted = tells_line worker t b reply.Aborted said.Aborted refl refl (λ e. absurd (true_false e))
 tells worker t b (reply.Oldest oldest) = tells_none worker t b (reply.Oldest oldest) refl
@@ -260,7 +265,7 @@ quiet_is sh parts (event.Begin session) r q = absurd (true_false (sym q))
 quiet_is sh parts (event.Insert own table row) r q = absurd (true_false (sym q))
 quiet_is sh parts (event.Update own table row) r q = absurd (true_false (sym q))
 quiet_is sh parts (event.Delete own table key) r q = absurd (true_false (sym q))
-quiet_is sh parts (event.Commit own) r q = absurd (true_false (sym q))
+quiet_is sh parts (event.Commit own reads) r q = absurd (true_false (sym q))
 quiet_is sh parts (event.Abort own) r q = absurd (true_false (sym q))
 quiet_is sh parts (event.Move table moves) r q = absurd (true_false (sym q))
 quiet_is sh parts (event.Seal table block) r q = absurd (true_false (sym q))
@@ -297,7 +302,7 @@ other_writes (event.Prune table block oldest) r seat q named ne = refl
 other_writes (event.Look table block) r seat q named ne = refl
 other_writes (event.Thaw table block) r seat q named ne = refl
 other_writes (event.Begin session) r seat q named ne = refl
-other_writes (event.Commit own) r seat q named ne = refl
+other_writes (event.Commit own reads) r seat q named ne = refl
 other_writes (event.Abort own) r seat q named ne = refl
 other_writes (event.Move table moves) r seat q named ne = refl
 other_writes (event.Seal table block) r seat q named ne = refl
@@ -591,6 +596,36 @@ module _ (script : Script) (parts : Parts) (front : List Occurrence) (lines : Li
             (others_stay script parts front lines seat (event.Move table moves) r low kept printed told asked made is_shown whose tt);
       }
 
+  -- A call that ends at a commit, refused or not, brings to the counts what it has to.
+  commit_ending : (own : OwnTransaction) (reads : Option ReadSet) → own.session ≡ seat → (stale : Option (Read × ℕ))
+      → told ≡ line_to (is_worker (who_at script seat)) (told_by 0 0 (reply_to_commit (shape_of script) parts own stale))
+      → Brings script parts front lines (with_reply lines printed) seat (event.Commit own reads) (reply_to_commit (shape_of script) parts own stale)
+  commit_ending own reads named (Some stale) tells_so =
+      let r : CoreReply = reply.Stale stale.0 stale.1 in
+      let is : told ≡ Some (said.Stale (stale_of stale.0) stale.1) = tells_so ∙ not_silent (is_worker (who_at script seat)) (said.Stale (stale_of stale.0) stale.1) refl in
+      record {
+        counted = counted_plain script parts front lines seat (event.Commit own reads) r low kept printed told asked made is_shown whose refl (ap (count_in pruned_in) is);
+        opened = opened_by script parts front lines seat (event.Commit own reads) r low kept (with_reply lines printed)
+            (λ some. mine_plain script parts front lines seat (event.Commit own reads) r low kept printed told asked made is_shown whose refl (ap ends_told is) some)
+            (others_stay script parts front lines seat (event.Commit own reads) r low kept printed told asked made is_shown whose named);
+      }
+  commit_ending own reads named None tells_so =
+      let n : Option ℕ = cond (Rattle.event_spec.specs.Effects.is_some_write own.writes) (Some ((desk_at (shape_of script) parts).commits + 1)) None in
+      let r : CoreReply = reply.Committed n in
+      record {
+        counted =
+            let is : told ≡ Some (said.Committed n) = tells_so ∙ not_silent (is_worker (who_at script seat)) (said.Committed n) refl in
+            let c = committed script parts front lines seat (event.Commit own reads) r low kept printed told asked made is_shown whose n is in
+            let o = kept.owned seat low in
+            let s = ap (Rattle.run_laws.specs.Counts.Versions.own_entries (shape_of script) parts) named in
+            let p = sum_with pruned_in lines printed told is_shown in let m = sum_with moved_in lines printed told is_shown in
+            let z : count_in pruned_in told ≡ 0 = ap (count_in pruned_in) is in
+            omega (arith, c, o, s, p, m, z);
+        opened = opened_by script parts front lines seat (event.Commit own reads) r low kept (with_reply lines printed)
+            (λ some. absurd (true_false (sym some)))
+            (others_stay script parts front lines seat (event.Commit own reads) r low kept printed told asked made is_shown whose named);
+      }
+
   -- An event that a call ends with brings to the counts what its line tells.
   pub brings_end : (e : CoreEvent) (refused : Bool) → Says e refused
   brings_end (event.Begin session) true named memory h all_told = absurd (true_false (sym (memory refl)))
@@ -608,21 +643,8 @@ module _ (script : Script) (parts : Parts) (front : List Occurrence) (lines : Li
       (λ some. mine_write script parts front lines seat (event.Delete own table key) (cond refused reply.Memory (reply_to (shape_of script) parts (event.Delete own table key))) low kept printed told asked made is_shown whose
       table own.session refused (change_judged (shape_of script) parts own table key) h.1 (ap (λ c. is_some (write_of c)) h.0) (a_session (ap is_upkeep h.0)) (still_some _ (own_after (under seat front)) some))
   brings_end (event.Read own table block) refused named memory h all_told = quiet_ending (event.Read own table block) refused refl named h all_told
-  brings_end (event.Commit own) true named memory h all_told = absurd (true_false (sym (memory refl)))
-  brings_end (event.Commit own) false named memory h all_told = record {
-    counted =
-        let n : Option ℕ = cond (Rattle.event_spec.specs.Effects.is_some_write own.writes) (Some ((desk_at (shape_of script) parts).commits + 1)) None in
-        let is : told ≡ Some (said.Committed n) = h.1 ∙ not_silent (is_worker (who_at script seat)) (said.Committed n) refl in
-        let c = committed script parts front lines seat (event.Commit own) (reply_to (shape_of script) parts (event.Commit own)) low kept printed told asked made is_shown whose n is in
-        let o = kept.owned seat low in
-        let s = ap (Rattle.run_laws.specs.Counts.Versions.own_entries (shape_of script) parts) named in
-        let p = sum_with pruned_in lines printed told is_shown in let m = sum_with moved_in lines printed told is_shown in
-        let z : count_in pruned_in told ≡ 0 = ap (count_in pruned_in) is in
-        omega (arith, c, o, s, p, m, z);
-    opened = opened_by script parts front lines seat (event.Commit own) (reply_to (shape_of script) parts (event.Commit own)) low kept (with_reply lines printed)
-        (λ some. absurd (true_false (sym some)))
-        (others_stay script parts front lines seat (event.Commit own) (reply_to (shape_of script) parts (event.Commit own)) low kept printed told asked made is_shown whose named);
-  }
+  brings_end (event.Commit own reads) true named memory h all_told = absurd (true_false (sym (memory refl)))
+  brings_end (event.Commit own reads) false named memory h all_told = commit_ending own reads named (stale_in (shape_of script) parts own reads) h.1
   brings_end (event.Abort own) refused named memory h all_told = reply_ending (event.Abort own) refused 0 0 named h.1 refl (λ some. absurd (true_false (sym some)))
   brings_end event.Oldest refused named memory h all_told = quiet_ending event.Oldest refused refl named h all_told
   brings_end (event.Observe table block) refused named memory h all_told = quiet_ending (event.Observe table block) refused refl named h all_told

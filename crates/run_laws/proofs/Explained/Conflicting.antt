@@ -62,8 +62,8 @@ names_commit None None false other n other_way e = absurd (let never : ⊥ = cc 
 num_refl : (a : ℕ) → (a == a) ≡ true
 num_refl a = grind (arith, nat_tests)
 
--- The last of some numbers is among them, or is what stands without any.
-last_is : (o : Option ℕ) (xs : List ℕ) (n : ℕ) → last_or o xs ≡ Some n → Among n xs ⊎ (o ≡ Some n)
+-- the last of some numbers is among them, or is what stands without any
+pub last_is : (o : Option ℕ) (xs : List ℕ) (n : ℕ) → last_or o xs ≡ Some n → Among n xs ⊎ (o ≡ Some n)
 last_is o [] n e = inr e
 last_is o (x ∷ xs) n e = go (last_is (Some x) xs n e)
   where

@@ -21,17 +21,19 @@ use Rattle.core_laws.specs.Events.Laws.{IsStep, command_in}
 use Rattle.event_spec.specs.declared.event.Event.TheVariants as event
 use Rattle.event_spec.specs.declared.event.MovePair.{MovePair}
 use Rattle.event_spec.specs.declared.own.OwnKey.{OwnKey}
+use Rattle.event_spec.specs.declared.own.OwnTransaction.{OwnTransaction}
 use Rattle.event_spec.specs.declared.reply.Reply.TheVariants as reply
 use Rattle.event_spec.specs.declared.reply.WriteFault.{WriteFault}
 use Rattle.event_spec.specs.declared.reply.WriteFault.TheVariants as refusal
-use Rattle.event_spec.specs.Effects.{CoreEvent, change_judged, held_pairs, holds, insert_judged}
-use Rattle.event_spec.specs.Lawful.{HasBlock, IsLawful}
+use Rattle.event_spec.specs.Effects.{CoreEvent, change_judged, held_pairs, holds, insert_judged, stale_in}
+use Rattle.event_spec.specs.Lawful.{HasBlock, IsLawful, reads_handed}
 use Rattle.event_spec.specs.Parts.{Parts, blocks_of, body_at, is_head, slots_of}
 use Rattle.event_spec.specs.Plans.{BlockLook, gap_places, is_in_group, pair_of, pairs_of, plan_of, row_places}
-use Rattle.event_spec.specs.Replies.{reply_to, reply_to_image, reply_to_seal, reply_to_write}
+use Rattle.event_spec.specs.Replies.{reply_to, reply_to_commit, reply_to_image, reply_to_seal, reply_to_write}
 use Rattle.event_spec.specs.Sound.{IsShape}
 use Rattle.isolation_spec.specs.Contents.{key_of}
 use Rattle.isolation_spec.specs.Machine.{IsolationMachine}
+use Rattle.isolation_spec.specs.declared.read.Read.{Read}
 use Rattle.outcome_spec.specs.Entries.{Entry, shown_in}
 use Rattle.outcome_spec.specs.Runs.{writes_committed_in}
 use Rattle.outcome_spec.specs.Forms.{is_worker}
@@ -50,7 +52,7 @@ use Rattle.run_spec.specs.Asked.{looks_in}
 use Rattle.run_spec.specs.Calls.{line_to}
 use Rattle.run_spec.specs.Occurrences.{Occurrence, replies_in}
 use Rattle.run_spec.specs.Ran.{shape_of}
-use Rattle.run_spec.specs.Told.{cause_told, dropped_told, told_by}
+use Rattle.run_spec.specs.Told.{cause_told, dropped_told, stale_of, told_by}
 use Rattle.core_laws.proofs.Sound.Written.{filled_there}
 use Rattle.run_laws.specs.Told.Laws.{TellsAt, TellsMove, TellsQuietly, is_plain}
 use Rattle.run_laws.proofs.Told.Tells.{not_silent}
@@ -326,10 +328,17 @@ module _ (script : Script) (parts : Parts) (front : List Occurrence) (at next : 
       says asked told (said.Moved (length (held_pairs (shape_of script) parts table pairs))) is
       (let few : length (held_pairs (shape_of script) parts table pairs) ≤ 64 = omega (arith, a, b, c) in few)
 
+  -- What is told at a commit, refused or not.
+  commit_says : (own : OwnTransaction) (asked : Command) (told : Option Said) (stale : Option (Read × ℕ)) → told ≡ line_to (is_worker who) (told_by 0 0 (reply_to_commit (shape_of script) parts own stale)) → Says asked told
+  commit_says own asked told (Some stale) is = says_plain asked told (said.Stale (stale_of stale.0) stale.1) (is ∙ not_silent (is_worker who) (said.Stale (stale_of stale.0) stale.1) refl) refl
+  commit_says own asked told None is =
+      let n : Option ℕ = cond (Rattle.event_spec.specs.Effects.is_some_write own.writes) (Some ((Rattle.event_spec.specs.Parts.desk_at (shape_of script) parts).commits + 1)) None in
+      says asked told (said.Committed n) (is ∙ not_silent (is_worker who) (said.Committed n) refl) tt
+
   -- What is told at an event.
   pub event_says : (e : CoreEvent) (refused : Bool) (made : List Occurrence) (asked : Command) (told : Option Said)
       → IsLawful (shape_of script) e parts
-      → IsStep (command_in e) at (cond refused reply.Memory (reply_to (shape_of script) parts e)) next
+      → IsStep (command_in e) (reads_handed e) at (cond refused reply.Memory (reply_to (shape_of script) parts e)) next
       → PruneCounts asked made
       → TellsAt (is_worker who) made e (cond refused reply.Memory (reply_to (shape_of script) parts e)) asked told
       → Says asked told
@@ -344,8 +353,8 @@ module _ (script : Script) (parts : Parts) (front : List Occurrence) (at next : 
     where
       never_freezing : (b g : ℕ) → insert_judged (shape_of script) parts own table (key_of row) ≡ Err (refusal.Freezing b g) → refused ≡ false → ⊥
       never_freezing b g is granted =
-          (subst (λ r. IsStep (command_in (event.Insert own table row)) at (reply_to_write r) next) is
-          (subst (λ x. IsStep (command_in (event.Insert own table row)) at (cond x reply.Memory (reply_to (shape_of script) parts (event.Insert own table row))) next) granted step)).0
+          (subst (λ r. IsStep (command_in (event.Insert own table row)) (reads_handed (event.Insert own table row)) at (reply_to_write r) next) is
+          (subst (λ x. IsStep (command_in (event.Insert own table row)) (reads_handed (event.Insert own table row)) at (cond x reply.Memory (reply_to (shape_of script) parts (event.Insert own table row))) next) granted step)).0
   event_says (event.Update own table row) refused made asked told lawful step counts h =
       write_says table asked told (is_worker who) refused (change_judged (shape_of script) parts own table (key_of row)) h.1
       (λ n is granted. absurd (never_full n is granted))
@@ -354,8 +363,8 @@ module _ (script : Script) (parts : Parts) (front : List Occurrence) (at next : 
     where
       never_full : (n : ℕ) → change_judged (shape_of script) parts own table (key_of row) ≡ Err (refusal.Full n) → refused ≡ false → ⊥
       never_full n is granted =
-          (subst (λ r. IsStep (command_in (event.Update own table row)) at (reply_to_write r) next) is
-          (subst (λ x. IsStep (command_in (event.Update own table row)) at (cond x reply.Memory (reply_to (shape_of script) parts (event.Update own table row))) next) granted step)).0
+          (subst (λ r. IsStep (command_in (event.Update own table row)) (reads_handed (event.Update own table row)) at (reply_to_write r) next) is
+          (subst (λ x. IsStep (command_in (event.Update own table row)) (reads_handed (event.Update own table row)) at (cond x reply.Memory (reply_to (shape_of script) parts (event.Update own table row))) next) granted step)).0
   event_says (event.Delete own table key) refused made asked told lawful step counts h =
       write_says table asked told (is_worker who) refused (change_judged (shape_of script) parts own table key) h.1
       (λ n is granted. absurd (never_full n is granted))
@@ -364,13 +373,11 @@ module _ (script : Script) (parts : Parts) (front : List Occurrence) (at next : 
     where
       never_full : (n : ℕ) → change_judged (shape_of script) parts own table key ≡ Err (refusal.Full n) → refused ≡ false → ⊥
       never_full n is granted =
-          (subst (λ r. IsStep (command_in (event.Delete own table key)) at (reply_to_write r) next) is
-          (subst (λ x. IsStep (command_in (event.Delete own table key)) at (cond x reply.Memory (reply_to (shape_of script) parts (event.Delete own table key))) next) granted step)).0
+          (subst (λ r. IsStep (command_in (event.Delete own table key)) (reads_handed (event.Delete own table key)) at (reply_to_write r) next) is
+          (subst (λ x. IsStep (command_in (event.Delete own table key)) (reads_handed (event.Delete own table key)) at (cond x reply.Memory (reply_to (shape_of script) parts (event.Delete own table key))) next) granted step)).0
   event_says (event.Read own table block) refused made asked told lawful step counts h = quiet_says asked made told counts h
-  event_says (event.Commit own) true made asked told lawful step counts h = says_plain asked told said.Memory (h.1 ∙ not_silent (is_worker who) said.Memory refl) refl
-  event_says (event.Commit own) false made asked told lawful step counts h =
-      let n : Option ℕ = cond (Rattle.event_spec.specs.Effects.is_some_write own.writes) (Some ((Rattle.event_spec.specs.Parts.desk_at (shape_of script) parts).commits + 1)) None in
-      says asked told (said.Committed n) (h.1 ∙ not_silent (is_worker who) (said.Committed n) refl) tt
+  event_says (event.Commit own reads) true made asked told lawful step counts h = says_plain asked told said.Memory (h.1 ∙ not_silent (is_worker who) said.Memory refl) refl
+  event_says (event.Commit own reads) false made asked told lawful step counts h = commit_says own asked told (stale_in (shape_of script) parts own reads) h.1
   event_says (event.Abort own) true made asked told lawful step counts h = says_plain asked told said.Memory (h.1 ∙ not_silent (is_worker who) said.Memory refl) refl
   event_says (event.Abort own) false made asked told lawful step counts h = says asked told said.Aborted (h.1 ∙ not_silent (is_worker who) said.Aborted refl) tt
   event_says event.Oldest refused made asked told lawful step counts h = quiet_says asked made told counts h

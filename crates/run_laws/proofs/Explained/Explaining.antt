@@ -1,7 +1,7 @@
 -- A run's text is explained.
 use Rattle.std.proofs.Common.{◌≡◌, ◌⊎◌, ℕ, zero, suc, ◌+◌, ◌*◌, ◌<◌, ◌≤◌, ◌^◌, nat_le, Bool, true, false, cond, ◌&&◌, List, [], ◌∷◌, ◌++◌, length, map, Option, None, Some, refl, sym, ap, ◌∙◌, subst, arith, length-append}
 use mathlib.Core.Logic.{inl, inr}
-use Rattle.std.specs.Prelude.{IfSome, Result}
+use Rattle.std.specs.Prelude.{IfSome, Result, option_and_then}
 use Rattle.std.specs.List.{cons_option, enumerate_from, flat_map, list_all, range_with_len}
 use Rattle.std.proofs.lemmas.Bool.Decides.{nat_tests}
 use Rattle.std.proofs.lemmas.List.{length-map}
@@ -11,23 +11,26 @@ use Rattle.block_spec.specs.Bodies.{seal_fault}
 use Rattle.block_spec.specs.declared.phase.Phase.{Phase}
 use Rattle.block_spec.specs.declared.phase.Phase.TheVariants.{Loose, Sealed, Imaged}
 use Rattle.block_spec.specs.declared.phase.SealFault.{SealFault}
-use Rattle.event_spec.specs.Lawful.{Among}
+use Rattle.event_spec.specs.Lawful.{Among, reads_handed}
 use Rattle.event_spec.specs.declared.event.Event.TheVariants as event
+use Rattle.event_spec.specs.declared.own.OwnTransaction.{OwnTransaction}
 use Rattle.event_spec.specs.declared.reply.Reply.TheVariants as reply
-use Rattle.event_spec.specs.Effects.{CoreEvent, change_judged, insert_judged, is_some_write}
+use Rattle.event_spec.specs.Effects.{CoreEvent, change_judged, insert_judged, is_some_write, stale_in}
 use Rattle.event_spec.specs.Parts.{Parts, Shape, below, blocks_of, body_at, desk_at, is_head}
 use Rattle.event_spec.specs.Replay.{IsLawfulFrom, after, opening}
-use Rattle.event_spec.specs.Replies.{reply_to, reply_to_image, reply_to_seal, reply_to_write}
+use Rattle.event_spec.specs.Replies.{reply_to, reply_to_commit, reply_to_image, reply_to_seal, reply_to_write}
 use Rattle.isolation_spec.specs.Contents.{key_of}
 use Rattle.isolation_spec.specs.Machine.{IsolationMachine}
 use Rattle.isolation_spec.specs.Machine as machine
+use Rattle.isolation_spec.specs.declared.read.Read.{Read}
 use Rattle.outcome_spec.specs.Entries.{Entry}
 use Rattle.outcome_spec.specs.Explained.{Explained}
-use Rattle.outcome_spec.specs.Forms.{Due, dues_of, is_seal_or_gather, is_silent, is_worker}
+use Rattle.outcome_spec.specs.Forms.{Due, dues_of, is_seal_or_gather, is_silent, is_upkeep, is_worker}
 use Rattle.timeline_laws.proofs.Scripts.{run-explained}
 use Rattle.timeline_laws.proofs.Tests.{and-false}
 use Rattle.timeline_spec.specs.Forms.{AllMayStand, MayAnswer, MayStand}
 use Rattle.workload_spec.specs.declared.command.Command.{Command}
+use Rattle.workload_spec.specs.declared.command.Command.TheVariants as command
 use Rattle.workload_spec.specs.declared.reply.Said.{Said}
 use Rattle.workload_spec.specs.declared.reply.Said.TheVariants as said
 use Rattle.workload_spec.specs.declared.reply.Who.{Who}
@@ -37,7 +40,9 @@ use Rattle.run_spec.specs.Asked.{at_all_blocks, at_blocks}
 use Rattle.run_spec.specs.Calls.{Call, line_to}
 use Rattle.run_spec.specs.Occurrences.{Logged, Occurrence, occurrence_of, occurrences_from}
 use Rattle.run_spec.specs.Ran.{Ran, RoundRun, Share, shape_of, told_in}
-use Rattle.run_spec.specs.Told.{cause_told, told_by}
+use Rattle.run_spec.specs.Told.{cause_told, stale_of, told_by}
+use Rattle.run_laws.proofs.Moments.Seats.{either, session_at}
+use Rattle.run_laws.proofs.Moments.Reads.{Reads, ReadsAt, ReadsAreKeys, runs_read}
 use Rattle.run_laws.proofs.Calls.Along.{and_first, and_second, named}
 use Rattle.run_laws.proofs.Calls.Dues.{calls_answer}
 use Rattle.run_laws.proofs.Calls.Named.{run_lawful, run_named}
@@ -46,15 +51,15 @@ use Rattle.run_laws.specs.Calls.Along.{are_named}
 use Rattle.run_laws.specs.Calls.Asking.{is_of}
 use Rattle.run_laws.specs.Calls.Dues.{dues_answered}
 use Rattle.run_laws.specs.Calls.Moments.{Lined, Moment, events_at}
-use Rattle.run_laws.proofs.Told.Tells.{not_silent, refusals_are_plain}
+use Rattle.run_laws.proofs.Told.Tells.{last_hands, not_silent, refusals_are_plain}
 use Rattle.run_laws.specs.Told.Laws.{TellsAt, TellsMove, TellsQuietly, is_plain}
-use Rattle.run_laws.specs.Moments.Laws.{AreMoments, EachCall, EachEnds, EachOf, EachShare, Ends, GoesOn, Stands, with_event}
+use Rattle.run_laws.specs.Moments.Laws.{AreMoments, EachCall, EachEnds, EachOf, EachShare, Ends, GoesOn, IsAsked, Stands, with_event}
 use Rattle.run_laws.specs.Moments.Moments.{due_of, moments_of, replies_at, who_at, with_reply}
 use Rattle.run_laws.proofs.Moments.Rounds.{each_call, runs_have_moments}
 use Rattle.run_laws.specs.Explained.Timelines.{PruningsFit, RunsAreExplained}
 use Rattle.run_laws.proofs.Explained.Answering.{event_stands}
 use Rattle.run_laws.proofs.Explained.Holding.{Holds, holds_first}
-use Rattle.run_laws.proofs.Explained.Scripts.{head, is_shape}
+use Rattle.run_laws.proofs.Explained.Scripts.{few_tables, head, is_shape, worker_upkeep}
 use Rattle.run_laws.proofs.Explained.Shown.{write_line}
 use Rattle.run_laws.proofs.Explained.Standing.{may_stand}
 use Rattle.run_laws.proofs.Explained.Walk.{after_held, alone_ended, alone_held, ended, first_is, moved, no_event, onward, rest_is, runs_give_timelines, tells_at, told_something}
@@ -132,6 +137,13 @@ module _ (shape : Shape) (parts : Parts) (worker : Bool) (made : List Occurrence
   image_hush table block false (Imaged g) body seal is = may_hush worker asked told said.NotFrozen seal is
   image_hush table block false (Sealed g) body seal is = may_hush worker asked told (said.Frozen table block (length (Rattle.block_spec.specs.Bodies.rows_of body))) seal is
 
+  -- A commit is not silent, refused or not.
+  commit_loud : (own : OwnTransaction) (stale : Option (Read × ℕ)) → told ≡ line_to worker (told_by 0 0 (reply_to_commit shape parts own stale)) → Loud worker asked told
+  commit_loud own (Some stale) is = loud_line worker asked told (said.Stale (stale_of stale.0) stale.1) (is ∙ not_silent worker (said.Stale (stale_of stale.0) stale.1) refl) refl
+  commit_loud own None is =
+      let n : Option ℕ = cond (is_some_write own.writes) (Some ((desk_at shape parts).commits + 1)) None in
+      loud_line worker asked told (said.Committed n) (is ∙ not_silent worker (said.Committed n) refl) refl
+
   -- so is what an event tells
   pub event_loud : (e : CoreEvent) (refused : Bool) → TellsAt worker made e (cond refused reply.Memory (reply_to shape parts e)) asked told → Loud worker asked told
   event_loud (event.Begin session) true h = memory_loud h.1
@@ -141,10 +153,8 @@ module _ (shape : Shape) (parts : Parts) (worker : Bool) (made : List Occurrence
   event_loud (event.Update own table row) refused h = write_loud table refused (change_judged shape parts own table (key_of row)) h.1
   event_loud (event.Delete own table key) refused h = write_loud table refused (change_judged shape parts own table key) h.1
   event_loud (event.Read own table block) refused h = quiet_loud worker asked made told h
-  event_loud (event.Commit own) true h = memory_loud h.1
-  event_loud (event.Commit own) false h =
-      let n : Option ℕ = cond (is_some_write own.writes) (Some ((desk_at shape parts).commits + 1)) None in
-      loud_line worker asked told (said.Committed n) (h.1 ∙ not_silent worker (said.Committed n) refl) refl
+  event_loud (event.Commit own reads) true h = memory_loud h.1
+  event_loud (event.Commit own reads) false h = commit_loud own (stale_in shape parts own reads) h.1
   event_loud (event.Abort own) true h = memory_loud h.1
   event_loud (event.Abort own) false h = loud_line worker asked told said.Aborted (h.1 ∙ not_silent worker said.Aborted refl) refl
   event_loud event.Oldest refused h = quiet_loud worker asked made told h
@@ -193,18 +203,6 @@ module _ (script : Script) (valid : is_valid script ≡ true) where
       let s : script.sessions ≤ 64 = grind (arith, nat_tests, sessions) in
       omega (arith, w, s)
 
-  -- A valid script has at most 16 tables.
-  few_tables : length script.tables ≤ 16
-  few_tables =
-      let h = head script valid in
-      let a = and_first (has_version script && is_within 1 most_tables (length script.tables) && list_all is_table script.tables && have_own_names script.tables && is_within 1 most_sessions script.sessions && nat_le script.workers most_workers) (nat_le script.turns most_turns) h in
-      let b = and_first (has_version script && is_within 1 most_tables (length script.tables) && list_all is_table script.tables && have_own_names script.tables && is_within 1 most_sessions script.sessions) (nat_le script.workers most_workers) a in
-      let c = and_first (has_version script && is_within 1 most_tables (length script.tables) && list_all is_table script.tables && have_own_names script.tables) (is_within 1 most_sessions script.sessions) b in
-      let d = and_first (has_version script && is_within 1 most_tables (length script.tables) && list_all is_table script.tables) (have_own_names script.tables) c in
-      let e = and_first (has_version script && is_within 1 most_tables (length script.tables)) (list_all is_table script.tables) d in
-      let f = and_second (nat_le 1 (length script.tables)) (nat_le (length script.tables) 16) (and_second (has_version script) (is_within 1 most_tables (length script.tables)) e) in
-      grind (arith, nat_tests, f)
-
   -- A table of a valid script has at most 1024 blocks.
   few_blocks : (t : ℕ) → blocks_of (shape_of script) t ≤ 1024
   few_blocks t = Rattle.run_laws.proofs.Explained.Scripts.blocks_few script valid t
@@ -213,7 +211,7 @@ module _ (script : Script) (valid : is_valid script ≡ true) where
   all_few : length (at_all_blocks (shape_of script) event.Observe) < 2 ^ 32
   all_few =
       let most = go 0 (length script.tables) in
-      let tables = few_tables in
+      let tables = few_tables script valid in
       omega (arith, most, tables)
     where
       go : (a n : ℕ) → length (flat_map (λ table. at_blocks (shape_of script) table (event.Observe table)) (range_with_len a n)) ≤ 1024 * n
@@ -247,11 +245,21 @@ module _ (script : Script) (valid : is_valid script ≡ true) where
       plain : (said' : Said) × (line.call.told ≡ Some said') × ((is_plain said' ≡ true) ⊎ (said' ≡ said.Moved 0))
       plain = refusals_are_plain (shape_of script) (is_worker (who_at script seat)) seat ends.began line.call ends.is_call none
 
+  -- A commit hands in keys of 64 bits.
+  handed_keys : (lines : List Entry) (seat : ℕ) (call : Call) (e : CoreEvent) → IsAsked script seat call.command → (is_worker (who_at script seat) ≡ false → Reads script lines seat call)
+      → (reads_handed e ≡ None) ⊎ (reads_handed e ≡ call.reads) → call.command ≡ command.Commit → ReadsAreKeys (reads_handed e)
+  handed_keys lines seat call e asked read (inl none) commits = subst ReadsAreKeys (sym none) tt
+  handed_keys lines seat call e asked read (inr same) commits = subst ReadsAreKeys (sym same) (go (either script seat))
+    where
+      go : (seat ≤ script.sessions) ⊎ (script.sessions < seat) → ReadsAreKeys call.reads
+      go (inl low) = (read (ap is_worker (session_at script seat low))).keys
+      go (inr high) = absurd (true_false (sym (worker_upkeep script seat call.command high asked) ∙ ap is_upkeep commits))
+
   -- Behind whatever holds in front, each call that ends at these moments answers its due.
   abbrev On : List Moment → Type 0
   On ms = (log : List Logged) (parts : Parts) (front : List Occurrence) (at : IsolationMachine) (lines : List Entry)
       → Holds script parts front at lines → IsLawfulFrom (shape_of script) parts (map (λ entry. entry.made) log) → are_named log ≡ true
-      → AreMoments script front ms → events_at ms ≡ occurrences_from (shape_of script) parts log
+      → AreMoments script front ms → ReadsAt script lines ms → events_at ms ≡ occurrences_from (shape_of script) parts log
       → EachEnds script AnswersIf ms
 
   -- With one moment in front of others, each call that ends still answers its due.
@@ -259,15 +267,17 @@ module _ (script : Script) (valid : is_valid script ≡ true) where
       → (log : List Logged) (parts : Parts) (front : List Occurrence) (at : IsolationMachine) (lines : List Entry)
       → Holds script parts front at lines → IsLawfulFrom (shape_of script) parts (map (λ entry. entry.made) log) → are_named log ≡ true
       → IfSome event (λ o. o.session ≡ seat) → Stands script front seat event line → AreMoments script (with_event front event) ms
+      → IfSome line (λ line. is_worker (who_at script seat) ≡ false → Reads script lines seat line.call)
+      → ReadsAt script (with_reply lines (option_and_then (λ (line : Lined). line.printed) line)) ms
       → cons_option event (events_at ms) ≡ occurrences_from (shape_of script) parts log
       → IfSome line (λ line. AnswersIf (who_at script seat) line.call) × EachEnds script AnswersIf ms
-  one seat low high None None ms on log parts front at lines held lawful are its stands rest events = absurd stands
-  one seat low high None (Some line) ms on log parts front at lines held lawful are its stands rest events = (
+  one seat low high None None ms on log parts front at lines held lawful are its stands rest read reads events = absurd stands
+  one seat low high None (Some line) ms on log parts front at lines held lawful are its stands rest read reads events = (
     ends_alone parts front at lines seat low line held stands,
-    on log parts front at (with_reply lines line.printed) (alone_held script valid parts front at lines seat low line held stands) lawful are rest events,
+    on log parts front at (with_reply lines line.printed) (alone_held script valid parts front at lines seat low line held stands) lawful are rest reads events,
   )
-  one seat low high (Some o) line ms on [] parts front at lines held lawful are its stands rest events = absurd (no_event script valid o (events_at ms) events)
-  one seat low high (Some o) None ms on (entry ∷ log) parts front at lines held lawful are its stands rest events =
+  one seat low high (Some o) line ms on [] parts front at lines held lawful are its stands rest read reads events = absurd (no_event script valid o (events_at ms) events)
+  one seat low high (Some o) None ms on (entry ∷ log) parts front at lines held lawful are its stands rest read reads events =
       let same : o ≡ occurrence_of (shape_of script) parts entry = first_is script valid o (occurrence_of (shape_of script) parts entry) (events_at ms) (occurrences_from (shape_of script) (after (shape_of script) parts entry.made) log) events in
       let seat_is : entry.session ≡ seat = ap (λ (o : Occurrence). o.session) (sym same) ∙ its in
       let goes = subst (GoesOn script front seat) same stands in
@@ -276,10 +286,10 @@ module _ (script : Script) (valid : is_valid script ≡ true) where
         on log (after (shape_of script) parts entry.made) (front ++ occurrence_of (shape_of script) parts entry ∷ []) at lines
             (onward script valid parts front at lines seat low high entry seat_is held lawful.0 lawful.1 here goes)
             lawful.2 (and_second (is_of entry.session entry.made.event) (are_named log) are)
-            (subst (λ o. AreMoments script (front ++ o ∷ []) ms) same rest)
+            (subst (λ o. AreMoments script (front ++ o ∷ []) ms) same rest) reads
             (rest_is script valid o (occurrence_of (shape_of script) parts entry) (events_at ms) (occurrences_from (shape_of script) (after (shape_of script) parts entry.made) log) events),
       )
-  one seat low high (Some o) (Some line) ms on (entry ∷ log) parts front at lines held lawful are its stands rest events =
+  one seat low high (Some o) (Some line) ms on (entry ∷ log) parts front at lines held lawful are its stands rest read reads events =
       let same : o ≡ occurrence_of (shape_of script) parts entry = first_is script valid o (occurrence_of (shape_of script) parts entry) (events_at ms) (occurrences_from (shape_of script) (after (shape_of script) parts entry.made) log) events in
       let seat_is : entry.session ≡ seat = ap (λ (o : Occurrence). o.session) (sym same) ∙ its in
       let ends = subst (λ o. Ends script front seat (Some o) line) same stands in
@@ -296,20 +306,23 @@ module _ (script : Script) (valid : is_valid script ≡ true) where
               made = occurrence_of (shape_of script) parts entry;
               all = ends.made;
               may = λ loud. event_stands script (few_seats script valid) parts front at next.0 lines held (is_worker (who_at script seat)) (is_shape script valid) few32 entry.made.event entry.made.refused
-                  line.call.made line.call.command line.call.told lawful.0 lawful.1 next.1 tells loud said' says;
+                  line.call.made line.call.command line.call.told lawful.0 lawful.1 next.1 tells loud
+                  (handed_keys lines seat line.call entry.made.event ends.asked read
+                  (last_hands (shape_of script) (is_worker (who_at script seat)) seat ends.began line.call ends.done (occurrence_of (shape_of script) parts entry) ends.is_call ends.made))
+                  said' says;
             }))),
         on log (after (shape_of script) parts entry.made) (front ++ occurrence_of (shape_of script) parts entry ∷ []) next.0 (with_reply lines line.printed)
             (after_held script valid parts front at lines seat low high entry seat_is held lawful.0 lawful.1 here line ends)
             lawful.2 (and_second (is_of entry.session entry.made.event) (are_named log) are)
-            (subst (λ o. AreMoments script (front ++ o ∷ []) ms) same rest)
+            (subst (λ o. AreMoments script (front ++ o ∷ []) ms) same rest) reads
             (rest_is script valid o (occurrence_of (shape_of script) parts entry) (events_at ms) (occurrences_from (shape_of script) (after (shape_of script) parts entry.made) log) events),
       )
 
   -- At all moments of a run each call that ends answers its due.
   all_answer : (ms : List Moment) → On ms
-  all_answer [] log parts front at lines held lawful are moments events = tt
-  all_answer (m ∷ ms) log parts front at lines held lawful are moments events =
-      one m.session moments.0.low moments.0.high m.event m.line ms (all_answer ms) log parts front at lines held lawful are moments.0.event_is moments.0.stands moments.1 events
+  all_answer [] log parts front at lines held lawful are moments reads events = tt
+  all_answer (m ∷ ms) log parts front at lines held lawful are moments reads events =
+      one m.session moments.0.low moments.0.high m.event m.line ms (all_answer ms) log parts front at lines held lawful are moments.0.event_is moments.0.stands moments.1 reads.0 reads.1 events
 
 -- ---- all dues
 
@@ -368,7 +381,7 @@ pub told_stands : (script : Script) (log : List Logged) (text : List ℕ) → is
 told_stands script log text valid ran fit =
     let moments = runs_have_moments script log text ran in
     let each = all_answer script valid (moments_of script ran.rounds) (as_log ran.trace) (opening (shape_of script)) [] machine.opening []
-    (holds_first script (is_shape script valid)) (run_lawful script log text ran) (run_named script log text ran) moments.calls moments.events in
+    (holds_first script (is_shape script valid)) (run_lawful script log text ran) (run_named script log text ran) moments.calls (runs_read script log text valid ran) moments.events in
     subst (λ dues. AllMayStand dues (told_in ran.rounds)) (sym (calls_answer script ran.rounds ran.asked))
     (rounds_stand 1 ran.rounds (each_call script log text ran AnswersIf each) fit)
 

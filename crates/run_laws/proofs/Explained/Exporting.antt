@@ -336,7 +336,7 @@ module _ (script : Script) (valid : is_valid script ≡ true) (seat : ℕ) (part
       within own mine t open' None least (inr p) = subst (ExportsWithin script.tables lines at t table) (same_line said.Memory line (sym p.line ∙ tells)) tt
       within own mine t open' None least (inl w) =
           let events : events_in call.made ≡ at_blocks (shape_of script) table (event.Read own table) =
-          w.events ∙ ap (λ c. events_of (shape_of script) (own_after ended.began) seat c call.made) is ∙ ap (λ o. events_of (shape_of script) o seat (command.Export table) call.made) mine in
+          w.events ∙ ap (λ c. events_of (shape_of script) (own_after ended.began) call.reads seat c call.made) is ∙ ap (λ o. events_of (shape_of script) o call.reads seat (command.Export table) call.made) mine in
           let told : call.told ≡ Some (summary_of own (replies_in call.made)) =
           w.line ∙ ap (λ c. line_of (own_after ended.began) c (replies_in call.made)) is ∙ ap (λ o. line_of o (command.Export table) (replies_in call.made)) mine in
           subst (ExportsWithin script.tables lines at t table) (same_line (summary_of own (replies_in call.made)) line (sym told ∙ tells))

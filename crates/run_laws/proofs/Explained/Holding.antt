@@ -16,7 +16,7 @@ use Rattle.core_laws.specs.Events.Named.{FollowsMachine}
 use Rattle.event_spec.specs.declared.event.Event.TheVariants as event
 use Rattle.event_spec.specs.declared.own.OwnTransaction.{OwnTransaction}
 use Rattle.event_spec.specs.declared.reply.Reply.TheVariants as reply
-use Rattle.event_spec.specs.Lawful.{Among, HasBlock, HasTable, IsLawful}
+use Rattle.event_spec.specs.Lawful.{Among, HasBlock, HasTable, IsLawful, reads_handed}
 use Rattle.event_spec.specs.Parts.{Parts, Shape, body_at, desk_at, head_at}
 use Rattle.event_spec.specs.Replay.{Made, after, opening, reply_after}
 use Rattle.event_spec.specs.Replies.{reply_to}
@@ -199,7 +199,7 @@ imaged_loose (Imaged g) e = (refl, refl)
 -- what holds at each moment holds behind the next, with its event and its line
 pub next_holds : (script : Script) (parts : Parts) (front : List Occurrence) (at next : IsolationMachine) (lines after_lines : List Entry) (entry : Logged)
     → IsShape (shape_of script) → IsLawful (shape_of script) entry.made.event parts → IsNamed entry → KeyFits entry.made.event
-    → IsStep (command_in entry.made.event) at (reply_after (shape_of script) parts entry.made) next
+    → IsStep (command_in entry.made.event) (reads_handed entry.made.event) at (reply_after (shape_of script) parts entry.made) next
     → FollowsMachine (shape_of script) (after (shape_of script) parts entry.made) next
     → Counted script parts entry.made lines after_lines
     → 1 ≤ entry.session → entry.session ≤ script.sessions + script.workers

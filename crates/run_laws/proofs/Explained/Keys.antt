@@ -11,19 +11,22 @@ use Rattle.std.proofs.lemmas.List.Elements.{All-head, All-nil, All-tail}
 use Rattle.std.proofs.lemmas.Map.Views.{All-keys-insert_entry}
 use Rattle.std.proofs.lemmas.Option.{none-some}
 use Rattle.cell_model.specs.declared.cell.Cell.{Cell}
+use Rattle.core_laws.proofs.Events.Plain.{plain}
 use Rattle.core_laws.specs.Events.Laws.{IsStep, IsTold, command_in}
 use Rattle.event_spec.specs.declared.event.Event.TheVariants as event
 use Rattle.event_spec.specs.declared.own.OwnTransaction.{OwnTransaction}
 use Rattle.event_spec.specs.declared.reply.Reply.TheVariants as reply
 use Rattle.event_spec.specs.declared.reply.WriteFault.{WriteFault}
 use Rattle.event_spec.specs.declared.reply.WriteFault.TheVariants as fault
-use Rattle.event_spec.specs.Effects.{CoreEvent, change_judged, insert_judged}
-use Rattle.event_spec.specs.Lawful.{session_of}
+use Rattle.event_spec.specs.Effects.{CoreEvent, change_judged, insert_judged, stale_in}
+use Rattle.event_spec.specs.Lawful.{reads_handed, session_of}
 use Rattle.event_spec.specs.Parts.{Parts, Shape}
 use Rattle.event_spec.specs.Replay.{reply_after}
-use Rattle.event_spec.specs.Replies.{CoreReply, reply_to, reply_to_write}
+use Rattle.event_spec.specs.Replies.{CoreReply, reply_to, reply_to_commit, reply_to_write}
 use Rattle.core_laws.proofs.Following.Machines.{found_session, of-append-new, of-append-other, of-with_own, of-with_own-other, of-without, of-without-own}
 use Rattle.isolation_spec.specs.Contents.{PlaceMap, WriteSet, key_of, place_at, place_cmp, place_of}
+use Rattle.isolation_spec.specs.declared.read.Read.{Read}
+use Rattle.isolation_spec.specs.Reads.{ReadSet}
 use Rattle.isolation_spec.specs.Machine.{IsolationMachine, Transaction, commit, entered, refusal_of_change, refusal_of_insert, step, step_of, transaction_of, with_own, without, write}
 use Rattle.isolation_spec.specs.Machine as machine
 use Rattle.isolation_spec.specs.declared.command.Act.{Act}
@@ -38,6 +41,7 @@ use Rattle.run_spec.specs.Calls.{is_final, is_memory}
 use Rattle.run_spec.specs.Occurrences.{Logged, Occurrence, occurrence_of, under}
 use Rattle.run_spec.specs.Opened.{least_written, own_after, own_behind}
 use Rattle.run_spec.specs.Opened as opened
+use Rattle.run_laws.proofs.Calls.Commits.{committed_is, stale_stays}
 use Rattle.run_laws.proofs.Calls.Coming.{event_stays, is_calm}
 use Rattle.run_laws.proofs.Calls.Open.{others_more, own_more}
 use Rattle.run_laws.specs.Calls.Open.{IsNamed}
@@ -57,7 +61,7 @@ quiet_own own (event.Insert handed table row) told q = absurd (true_false (sym q
 quiet_own own (event.Update handed table row) told q = absurd (true_false (sym q))
 quiet_own own (event.Delete handed table key) told q = absurd (true_false (sym q))
 quiet_own own (event.Read handed table block) told q = refl
-quiet_own own (event.Commit handed) told q = absurd (true_false (sym q))
+quiet_own own (event.Commit handed reads) told q = absurd (true_false (sym q))
 quiet_own own (event.Abort handed) told q = absurd (true_false (sym q))
 quiet_own own event.Oldest told q = refl
 quiet_own own (event.Observe table block) told q = refl
@@ -76,7 +80,7 @@ quiet_calm (event.Insert own table row) q = absurd (true_false (sym q))
 quiet_calm (event.Update own table row) q = absurd (true_false (sym q))
 quiet_calm (event.Delete own table key) q = absurd (true_false (sym q))
 quiet_calm (event.Read own table block) q = (refl, refl)
-quiet_calm (event.Commit own) q = absurd (true_false (sym q))
+quiet_calm (event.Commit own reads) q = absurd (true_false (sym q))
 quiet_calm (event.Abort own) q = absurd (true_false (sym q))
 quiet_calm event.Oldest q = (refl, refl)
 quiet_calm (event.Observe table block) q = (refl, refl)
@@ -88,7 +92,7 @@ quiet_calm (event.Image table block image) q = absurd (true_false (sym q))
 quiet_calm (event.Thaw table block) q = (refl, refl)
 
 -- and it leaves the machine
-pub quiet_stays : (at next : IsolationMachine) (e : CoreEvent) (told : CoreReply) → is_quiet e ≡ true → IsStep (command_in e) at told next → next ≡ at
+pub quiet_stays : (at next : IsolationMachine) (e : CoreEvent) (told : CoreReply) → is_quiet e ≡ true → IsStep (command_in e) (reads_handed e) at told next → next ≡ at
 quiet_stays at next e told q step = event_stays at next e told (quiet_calm e q).0 (ap (λ b. is_memory told || not b) (quiet_calm e q).1 ∙ last (is_memory told)) step
   where
     last : (b : Bool) → (b || true) ≡ true
@@ -278,14 +282,14 @@ module _ (m next : IsolationMachine) (q : ℕ) (place : Place) (value : Option (
   granted_goes slot (inr g) = absurd (g.0 refl)
 
   -- A write goes as it was told, granted, refused, or without memory.
-  write_goes : (refused : Bool) (r : Result ℕ WriteFault) → IsTold m (asked q what) (cond refused reply.Memory (reply_to_write r)) next
+  write_goes : (refused : Bool) (r : Result ℕ WriteFault) → IsTold m None (asked q what) (cond refused reply.Memory (reply_to_write r)) next
       → WriteGoes m next q place value (cond refused reply.Memory (reply_to_write r))
   write_goes true r h = inr (λ own. refl, h.2)
-  write_goes false (Ok slot) h = granted_goes slot (goes answer.Accepted h)
-  write_goes false (Err (fault.ConflictSession s)) h = refused_goes (answer.ConflictSession s) (reply.Refused (fault.ConflictSession s)) (λ e. (let never : ⊥ = cc e in never)) (λ own. refl) (goes (answer.ConflictSession s) h)
-  write_goes false (Err (fault.ConflictCommit n)) h = refused_goes (answer.ConflictCommit n) (reply.Refused (fault.ConflictCommit n)) (λ e. (let never : ⊥ = cc e in never)) (λ own. refl) (goes (answer.ConflictCommit n) h)
-  write_goes false (Err fault.Exists) h = refused_goes answer.Exists (reply.Refused fault.Exists) (λ e. (let never : ⊥ = cc e in never)) (λ own. refl) (goes answer.Exists h)
-  write_goes false (Err fault.Missing) h = refused_goes answer.Missing (reply.Refused fault.Missing) (λ e. (let never : ⊥ = cc e in never)) (λ own. refl) (goes answer.Missing h)
+  write_goes false (Ok slot) h = granted_goes slot (goes answer.Accepted (sym (plain m (asked q what)) ∙ h))
+  write_goes false (Err (fault.ConflictSession s)) h = refused_goes (answer.ConflictSession s) (reply.Refused (fault.ConflictSession s)) (λ e. (let never : ⊥ = cc e in never)) (λ own. refl) (goes (answer.ConflictSession s) (sym (plain m (asked q what)) ∙ h))
+  write_goes false (Err (fault.ConflictCommit n)) h = refused_goes (answer.ConflictCommit n) (reply.Refused (fault.ConflictCommit n)) (λ e. (let never : ⊥ = cc e in never)) (λ own. refl) (goes (answer.ConflictCommit n) (sym (plain m (asked q what)) ∙ h))
+  write_goes false (Err fault.Exists) h = refused_goes answer.Exists (reply.Refused fault.Exists) (λ e. (let never : ⊥ = cc e in never)) (λ own. refl) (goes answer.Exists (sym (plain m (asked q what)) ∙ h))
+  write_goes false (Err fault.Missing) h = refused_goes answer.Missing (reply.Refused fault.Missing) (λ e. (let never : ⊥ = cc e in never)) (λ own. refl) (goes answer.Missing (sym (plain m (asked q what)) ∙ h))
   write_goes false (Err (fault.Freezing b g)) h = inr (λ own. refl, h.2)
   write_goes false (Err (fault.Full n)) h = inr (λ own. refl, h.2)
 
@@ -341,7 +345,7 @@ record Leaves (q : ℕ) (m next : IsolationMachine) (left : Option Transaction) 
   others : (r : ℕ) → r ≢ q → transaction_of r next ≡ transaction_of r m
 
 -- A begin leaves its session a new transaction, and the others theirs.
-begin_leaves : (m next : IsolationMachine) (q number : ℕ) → step m (asked q act.Begin) ≡ pair (answer.At number) next
+begin_leaves : (m next : IsolationMachine) (q number : ℕ) → step m (asked q (act.Begin false)) ≡ pair (answer.At number) next
     → Leaves q m next (Some (record { session = q; snapshot = length m.history; own = [] }))
 begin_leaves m next q number h = go (transaction_of q m) refl h
   where
@@ -351,7 +355,7 @@ begin_leaves m next q number h = go (transaction_of q m) refl h
     not_within : answer.InTransaction ≡ answer.At number → ⊥
     not_within e = cc
 
-    go : (o : Option Transaction) → transaction_of q m ≡ o → step_of m (asked q act.Begin) o ≡ pair (answer.At number) next
+    go : (o : Option Transaction) → transaction_of q m ≡ o → step_of m (asked q (act.Begin false)) o ≡ pair (answer.At number) next
         → Leaves q m next (Some (record { session = q; snapshot = length m.history; own = [] }))
     go (Some t) is e = absurd (not_within (said_is (pair answer.InTransaction m) (pair (answer.At number) next) e))
     go None is e =
@@ -412,7 +416,7 @@ module _ (shape : Shape) (parts : Parts) (q : ℕ) (m next : IsolationMachine) w
   told_to e refused = cond refused reply.Memory (reply_to shape parts e)
 
   -- A begin keeps the places the same on both sides.
-  begin_keeps : (session : ℕ) (refused : Bool) → session ≡ q → IsStep (command_in (event.Begin session)) m (told_to (event.Begin session) refused) next
+  begin_keeps : (session : ℕ) (refused : Bool) → session ≡ q → IsStep (command_in (event.Begin session)) (reads_handed (event.Begin session)) m (told_to (event.Begin session) refused) next
       → Keeps q (event.Begin session) (told_to (event.Begin session) refused) m next
   begin_keeps session true same (inl h, some, rest) own was = absurd h
   begin_keeps session true same (inr (inl h), some, rest) own was = absurd h
@@ -422,16 +426,22 @@ module _ (shape : Shape) (parts : Parts) (q : ℕ) (m next : IsolationMachine) w
       (λ own. refl) (begin_leaves m next session _ h) own was
 
   -- A commit keeps the places the same on both sides.
-  commit_keeps : (handed : OwnTransaction) (refused : Bool) → handed.session ≡ q → IsStep (command_in (event.Commit handed)) m (told_to (event.Commit handed) refused) next
-      → Keeps q (event.Commit handed) (told_to (event.Commit handed) refused) m next
-  commit_keeps handed true same (inl h, some, rest) own was = absurd h
-  commit_keeps handed true same (inr (inl h), some, rest) own was = absurd h
-  commit_keeps handed true same (inr (inr h), some, rest) own was = absurd h
-  commit_keeps handed false same h own was =
-      leaves_keep q handed.session (event.Commit handed) (told_to (event.Commit handed) false) m next None same (λ own. refl) (commit_leaves m next handed.session _ h) own was
+  commit_keeps : (handed : OwnTransaction) (reads : Option ReadSet) (refused : Bool) → handed.session ≡ q → IsStep (command_in (event.Commit handed reads)) (reads_handed (event.Commit handed reads)) m (told_to (event.Commit handed reads) refused) next
+      → Keeps q (event.Commit handed reads) (told_to (event.Commit handed reads) refused) m next
+  commit_keeps handed reads true same (inl h, some, rest) own was = absurd h
+  commit_keeps handed reads true same (inr (inl h), some, rest) own was = absurd h
+  commit_keeps handed reads true same (inr (inr h), some, rest) own was = absurd h
+  commit_keeps handed reads false same h own was = go (stale_in shape parts handed reads) h own was
+    where
+      go : (o : Option (Read × ℕ)) → IsTold m reads (asked handed.session act.Commit) (reply_to_commit shape parts handed o) next
+          → Keeps q (event.Commit handed reads) (reply_to_commit shape parts handed o) m next
+      go None h = leaves_keep q handed.session (event.Commit handed reads) (reply_to_commit shape parts handed None) m next None same (λ own. refl)
+          (commit_leaves m next handed.session _ (committed_is m next reads handed.session _ h))
+      go (Some stale) h = aside q (event.Commit handed reads) (reply_to_commit shape parts handed (Some stale)) m next (λ own. refl)
+          (stale_stays m next reads handed.session stale.0 stale.1 h)
 
   -- An abort keeps the places the same on both sides.
-  abort_keeps : (handed : OwnTransaction) (refused : Bool) → handed.session ≡ q → IsStep (command_in (event.Abort handed)) m (told_to (event.Abort handed) refused) next
+  abort_keeps : (handed : OwnTransaction) (refused : Bool) → handed.session ≡ q → IsStep (command_in (event.Abort handed)) (reads_handed (event.Abort handed)) m (told_to (event.Abort handed) refused) next
       → Keeps q (event.Abort handed) (told_to (event.Abort handed) refused) m next
   abort_keeps handed true same (inl h, some, rest) own was = absurd h
   abort_keeps handed true same (inr (inl h), some, rest) own was = absurd h
@@ -440,12 +450,12 @@ module _ (shape : Shape) (parts : Parts) (q : ℕ) (m next : IsolationMachine) w
       leaves_keep q handed.session (event.Abort handed) (told_to (event.Abort handed) false) m next None same (λ own. refl) (abort_leaves m next handed.session h) own was
 
   -- A quiet event keeps the places the same on both sides.
-  quiet_keeps : (e : CoreEvent) (told : CoreReply) → is_quiet e ≡ true → IsStep (command_in e) m told next → Keeps q e told m next
+  quiet_keeps : (e : CoreEvent) (told : CoreReply) → is_quiet e ≡ true → IsStep (command_in e) (reads_handed e) m told next → Keeps q e told m next
   quiet_keeps e told quiet h = aside q e told m next (λ own. quiet_own own e told quiet) (quiet_stays m next e told quiet h)
 
   -- an event, whatever it is
   event_keeps : (e : CoreEvent) (refused : Bool) → IfSome (session_of e) (λ session. session ≡ q)
-      → IsStep (command_in e) m (told_to e refused) next → Keeps q e (told_to e refused) m next
+      → IsStep (command_in e) (reads_handed e) m (told_to e refused) next → Keeps q e (told_to e refused) m next
   event_keeps (event.Begin session) refused same h = begin_keeps session refused same h
   event_keeps (event.Get handed table key) refused same h = quiet_keeps (event.Get handed table key) (told_to (event.Get handed table key) refused) refl h
   event_keeps (event.Insert handed table row) refused same h =
@@ -461,7 +471,7 @@ module _ (shape : Shape) (parts : Parts) (q : ℕ) (m next : IsolationMachine) w
       (subst (λ s. WriteGoes m next s (place_at table key) None (told_to (event.Delete handed table key) refused)) same
       (write_goes m next handed.session (place_at table key) None (act.Delete table key) (delete_goes m next handed.session table key) refused (change_judged shape parts handed table key) h))
   event_keeps (event.Read handed table block) refused same h = quiet_keeps (event.Read handed table block) (told_to (event.Read handed table block) refused) refl h
-  event_keeps (event.Commit handed) refused same h = commit_keeps handed refused same h
+  event_keeps (event.Commit handed reads) refused same h = commit_keeps handed reads refused same h
   event_keeps (event.Abort handed) refused same h = abort_keeps handed refused same h
   event_keeps event.Oldest refused same h = quiet_keeps event.Oldest (told_to event.Oldest refused) refl h
   event_keeps (event.Observe table block) refused same h = quiet_keeps (event.Observe table block) (told_to (event.Observe table block) refused) refl h
@@ -482,7 +492,7 @@ KeyFits (event.Insert own table row) = is_key_number (key_of row) ≡ true
 KeyFits (event.Update own table row) = is_key_number (key_of row) ≡ true
 KeyFits (event.Delete own table key) = is_key_number key ≡ true
 KeyFits (event.Read own table block) = Unit {0}
-KeyFits (event.Commit own) = Unit {0}
+KeyFits (event.Commit own reads) = Unit {0}
 KeyFits (event.Abort own) = Unit {0}
 KeyFits event.Oldest = Unit {0}
 KeyFits (event.Observe table block) = Unit {0}
@@ -501,7 +511,7 @@ quiet_fits (event.Delete own table key) q = absurd (true_false (sym q))
 quiet_fits (event.Begin session) q = tt
 quiet_fits (event.Get own table key) q = tt
 quiet_fits (event.Read own table block) q = tt
-quiet_fits (event.Commit own) q = tt
+quiet_fits (event.Commit own reads) q = tt
 quiet_fits (event.Abort own) q = tt
 quiet_fits event.Oldest q = tt
 quiet_fits (event.Observe table block) q = tt
@@ -522,6 +532,11 @@ writes_fit : (place : Place) (told : CoreReply) (own : Option OwnTransaction) �
 writes_fit place told None fits all = tt
 writes_fit place told (Some t) fits all = with_own_fits place told t fits all
 
+-- A commit, refused or not, leaves the keys of what is open such keys.
+commit_fits : (told : CoreReply) (own : Option OwnTransaction) → KeysFit own → KeysFit (opened.committed_by own told)
+commit_fits (reply.Stale what number) own all = all
+commit_fits _ own all = tt
+
 -- An event of a key of 64 bits leaves the keys of what is open such keys.
 event_fits : (shape : Shape) (parts : Parts) (e : CoreEvent) (refused : Bool) (own : Option OwnTransaction) → KeyFits e → KeysFit own
     → KeysFit (own_behind own e (cond refused reply.Memory (reply_to shape parts e)))
@@ -532,7 +547,7 @@ event_fits shape parts (event.Insert handed table row) refused own fits all = wr
 event_fits shape parts (event.Update handed table row) refused own fits all = writes_fit (place_of table row) (cond refused reply.Memory (reply_to shape parts (event.Update handed table row))) own fits all
 event_fits shape parts (event.Delete handed table key) refused own fits all = writes_fit (place_at table key) (cond refused reply.Memory (reply_to shape parts (event.Delete handed table key))) own fits all
 event_fits shape parts (event.Read handed table block) refused own fits all = all
-event_fits shape parts (event.Commit handed) refused own fits all = tt
+event_fits shape parts (event.Commit handed reads) refused own fits all = commit_fits (cond refused reply.Memory (reply_to shape parts (event.Commit handed reads))) own all
 event_fits shape parts (event.Abort handed) refused own fits all = tt
 event_fits shape parts event.Oldest refused own fits all = all
 event_fits shape parts (event.Observe table block) refused own fits all = all
@@ -579,7 +594,7 @@ same_or_not a b = go (a == b) refl
 
 -- the two wrote the same places behind one event more
 pub keys_go : (shape : Shape) (parts : Parts) (entry : Logged) (front : List Occurrence) (m next : IsolationMachine)
-    → IsNamed entry → KeyFits entry.made.event → IsStep (command_in entry.made.event) m (reply_after shape parts entry.made) next
+    → IsNamed entry → KeyFits entry.made.event → IsStep (command_in entry.made.event) (reads_handed entry.made.event) m (reply_after shape parts entry.made) next
     → KeysAgree front m → KeysAgree (front ++ occurrence_of shape parts entry ∷ []) next
 keys_go shape parts entry front m next named fits h agrees r = of_any (same_or_not r entry.session)
   where

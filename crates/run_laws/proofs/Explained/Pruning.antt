@@ -79,7 +79,7 @@ untold_rises blocks way (event.Insert own table row) told = omega arith
 untold_rises blocks way (event.Update own table row) told = omega arith
 untold_rises blocks way (event.Delete own table key) told = omega arith
 untold_rises blocks way (event.Read own table block) told = omega arith
-untold_rises blocks way (event.Commit own) told = omega arith
+untold_rises blocks way (event.Commit own reads) told = omega arith
 untold_rises blocks way (event.Abort own) told = omega arith
 untold_rises blocks way (event.Observe table block) told = omega arith
 untold_rises blocks way (event.Look table block) told = omega arith
@@ -111,7 +111,7 @@ as_pruning (event.Insert own table row ∷ es) all = absurd (true_false (sym all
 as_pruning (event.Update own table row ∷ es) all = absurd (true_false (sym all))
 as_pruning (event.Delete own table key ∷ es) all = absurd (true_false (sym all))
 as_pruning (event.Read own table block ∷ es) all = absurd (true_false (sym all))
-as_pruning (event.Commit own ∷ es) all = absurd (true_false (sym all))
+as_pruning (event.Commit own reads ∷ es) all = absurd (true_false (sym all))
 as_pruning (event.Abort own ∷ es) all = absurd (true_false (sym all))
 as_pruning (event.Oldest ∷ es) all = absurd (true_false (sym all))
 as_pruning (event.Observe table block ∷ es) all = absurd (true_false (sym all))
@@ -136,7 +136,7 @@ the_prune (event.Insert own table row) all = absurd (true_false (sym all))
 the_prune (event.Update own table row) all = absurd (true_false (sym all))
 the_prune (event.Delete own table key) all = absurd (true_false (sym all))
 the_prune (event.Read own table block) all = absurd (true_false (sym all))
-the_prune (event.Commit own) all = absurd (true_false (sym all))
+the_prune (event.Commit own reads) all = absurd (true_false (sym all))
 the_prune (event.Abort own) all = absurd (true_false (sym all))
 the_prune event.Oldest all = absurd (true_false (sym all))
 the_prune (event.Observe table block) all = absurd (true_false (sym all))
@@ -295,7 +295,7 @@ prune_calls shape worker session began call is replied asked =
     go (subst (λ c. Rattle.run_spec.specs.Calls.IsCallBy shape worker session (own_after began) (Rattle.run_spec.specs.Told.refusal_of c (own_after began)) call) asked is)
   where
     go : Rattle.run_spec.specs.Calls.IsCallBy shape worker session (own_after began) None call → Prunes shape began call.made
-    go (inl whole) = prunes_made shape began call.made (whole.events ∙ ap (λ c. events_of shape (own_after began) session c call.made) asked) whole.granted replied
+    go (inl whole) = prunes_made shape began call.made (whole.events ∙ ap (λ c. events_of shape (own_after began) call.reads session c call.made) asked) whole.granted replied
     go (inr part) = absurd (true_false (sym part.may ∙ ap Rattle.run_spec.specs.Calls.may_lack_memory asked))
 
 -- at the last event of a pruning: all that was not told is told
@@ -315,7 +315,7 @@ told_last blocks count way (event.Insert own table row) told is all drops = absu
 told_last blocks count way (event.Update own table row) told is all drops = absurd (true_false (sym is))
 told_last blocks count way (event.Delete own table key) told is all drops = absurd (true_false (sym is))
 told_last blocks count way (event.Read own table block) told is all drops = absurd (true_false (sym is))
-told_last blocks count way (event.Commit own) told is all drops = absurd (true_false (sym is))
+told_last blocks count way (event.Commit own reads) told is all drops = absurd (true_false (sym is))
 told_last blocks count way (event.Abort own) told is all drops = absurd (true_false (sym is))
 told_last blocks count way (event.Observe table block) told is all drops = absurd (true_false (sym is))
 told_last blocks count way (event.Look table block) told is all drops = absurd (true_false (sym is))

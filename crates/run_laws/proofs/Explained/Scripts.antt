@@ -1,5 +1,5 @@
 -- What is asked of a workload's sessions and workers, and its tables.
-use Rattle.std.proofs.Common.{◌≡◌, ◌⊎◌, ℕ, zero, suc, ◌<◌, ◌≤◌, ◌^◌, nat_le, nat_lt, min, Bool, true, false, cond, ◌&&◌, ◌==◌, List, [], ◌∷◌, length, Option, None, Some, refl, sym, ap, ◌∙◌, subst, arith}
+use Rattle.std.proofs.Common.{◌≡◌, ◌⊎◌, ℕ, zero, suc, ◌<◌, ◌≤◌, ◌^◌, nat_le, nat_lt, min, Bool, true, false, cond, ◌&&◌, ◌==◌, List, [], ◌∷◌, length, Option, None, Some, refl, sym, ap, ◌∙◌, subst, arith, ℤ}
 use mathlib.Core.Logic.{inl, inr}
 use Rattle.std.specs.Prelude.{◌*◌, ◌/◌, ◌%◌, is_none, option_map, slice_get, unwrap_or}
 use Rattle.std.specs.List.{enumerate_from, flat_map, list_all, range_with_len}
@@ -28,7 +28,7 @@ use Rattle.workload_spec.specs.declared.command.Command.{Command}
 use Rattle.workload_spec.specs.declared.command.Command.TheVariants as command
 use Rattle.workload_spec.specs.declared.script.Line.{Line}
 use Rattle.workload_spec.specs.declared.script.Script.{Script}
-use Rattle.workload_spec.specs.Valid.{all_lines, are_blocks, are_columns, are_slots, fits_table, has_head, have_own_names, is_command, is_export, is_key_number, is_line, is_name, is_table, is_valid, is_table_place, is_within, most_sessions, most_tables, most_turns, most_workers, has_version, is_column}
+use Rattle.workload_spec.specs.Valid.{all_lines, are_blocks, are_columns, are_slots, fits_table, has_head, has_version, have_own_names, is_column, is_command, is_export, is_key_number, is_line, is_name, is_table, is_table_place, is_valid, is_within, most_sessions, most_tables, most_turns, most_workers, takes_command}
 use Rattle.workload_spec.specs.declared.reply.Said.{Said}
 use Rattle.workload_laws.proofs.CommandsBack.{key_cell}
 use Rattle.run_spec.specs.Occurrences.{Occurrence}
@@ -38,6 +38,10 @@ use Rattle.run_laws.specs.Told.Laws.{TellsAt}
 use Rattle.run_laws.specs.Moments.Laws.{IsAsked}
 use Rattle.run_laws.proofs.Moments.Seats.{either}
 use Rattle.run_laws.proofs.Explained.Keys.{KeyFits}
+
+-- What is true is not false.
+true_false : true ≡ false → ⊥
+true_false e = cc
 
 -- What a test says of all of a list it says of each element.
 all_member : {X : Type 0} (p : X → Bool) (xs : List X) (x : X) → list_all p xs ≡ true → Among x xs → p x ≡ true
@@ -104,18 +108,34 @@ module _ (script : Script) (valid : is_valid script ≡ true) where
   lines_are = and_second (has_head script && nat_lt 0 (length script.rounds)) (list_all (is_line script) (all_lines script))
       (and_first (has_head script && nat_lt 0 (length script.rounds) && list_all (is_line script) (all_lines script)) (nat_le (Rattle.std.specs.Prelude.count_by (λ line. is_export line.command) (all_lines script)) 1) valid)
 
-  -- what is asked of a session is a command of the tables
-  pub session_asked : (seat : ℕ) (asked : Command) → seat ≤ script.sessions → IsAsked script seat asked → is_command script.tables asked ≡ true
-  session_asked seat asked low is =
+  -- what is asked of a session is a command of the tables that the version takes
+  pub session_line : (seat : ℕ) (asked : Command) → seat ≤ script.sessions → IsAsked script seat asked → (is_command script.tables asked ≡ true) × (takes_command script.version asked ≡ true)
+  session_line seat asked low is =
       let e : nat_le seat script.sessions ≡ true = grind (arith, nat_tests, low) in
       let found = kept_member (λ (line : Line). cond (line.session == seat) (Some line.command) None) is.0 asked (subst (Among asked) (ap (λ b. cond b (commands_of seat is.0) (turns_of script)) e) is.2) in
       let of_line : is_line script found.0 ≡ true = all_member (is_line script) (all_lines script) found.0 lines_are (member_flat (λ (round : List Line). round) script.rounds is.0 found.0 is.1 found.1) in
-      ap (is_command script.tables) (sym (same (found.0.session == seat) found.0.command found.2))
-      ∙ and_second (is_within 1 script.sessions found.0.session) (is_command script.tables found.0.command) of_line
+      let it = sym (same (found.0.session == seat) found.0.command found.2) in (
+        ap (is_command script.tables) it
+            ∙ and_second (is_within 1 script.sessions found.0.session) (is_command script.tables found.0.command)
+            (and_first (is_within 1 script.sessions found.0.session && is_command script.tables found.0.command) (takes_command script.version found.0.command) of_line),
+        ap (takes_command script.version) it
+            ∙ and_second (is_within 1 script.sessions found.0.session && is_command script.tables found.0.command) (takes_command script.version found.0.command) of_line,
+      )
     where
       same : (b : Bool) (c : Command) → cond b (Some c) None ≡ Some asked → c ≡ asked
       same true c e = cc
       same false c e = absurd (let never : ⊥ = cc e in never)
+
+  -- what is asked of a session is a command of the tables
+  pub session_asked : (seat : ℕ) (asked : Command) → seat ≤ script.sessions → IsAsked script seat asked → is_command script.tables asked ≡ true
+  session_asked seat asked low is = (session_line seat asked low is).0
+
+  -- no session is asked for a range or a total, which no version takes
+  pub not_range : (seat : ℕ) (asked : Command) → seat ≤ script.sessions → IsAsked script seat asked → (table : ℕ) (from to : ℤ) → asked ≡ command.Range table from to → ⊥
+  not_range seat asked low is table from to e = true_false (sym (session_line seat asked low is).1 ∙ ap (takes_command script.version) e)
+
+  pub not_total : (seat : ℕ) (asked : Command) → seat ≤ script.sessions → IsAsked script seat asked → (table column : ℕ) (from to : ℤ) → asked ≡ command.Total table column from to → ⊥
+  not_total seat asked low is table column from to e = true_false (sym (session_line seat asked low is).1 ∙ ap (takes_command script.version) e)
 
   -- ---- tables
 
@@ -133,9 +153,21 @@ module _ (script : Script) (valid : is_valid script ≡ true) where
   table_at (x ∷ tables) zero all less = (x, refl, and_first (is_table x) (list_all is_table tables) all)
   table_at (x ∷ tables) (suc t) all less = table_at tables t (and_second (is_table x) (list_all is_table tables) all) (omega (arith, less))
 
+  -- a valid script has at most 16 tables
+  pub few_tables : length script.tables ≤ 16
+  few_tables =
+      let h = head in
+      let a = and_first (has_version script && is_within 1 most_tables (length script.tables) && list_all is_table script.tables && have_own_names script.tables && is_within 1 most_sessions script.sessions && nat_le script.workers most_workers) (nat_le script.turns most_turns) h in
+      let b = and_first (has_version script && is_within 1 most_tables (length script.tables) && list_all is_table script.tables && have_own_names script.tables && is_within 1 most_sessions script.sessions) (nat_le script.workers most_workers) a in
+      let c = and_first (has_version script && is_within 1 most_tables (length script.tables) && list_all is_table script.tables && have_own_names script.tables) (is_within 1 most_sessions script.sessions) b in
+      let d = and_first (has_version script && is_within 1 most_tables (length script.tables) && list_all is_table script.tables) (have_own_names script.tables) c in
+      let e = and_first (has_version script && is_within 1 most_tables (length script.tables)) (list_all is_table script.tables) d in
+      let f = and_second (nat_le 1 (length script.tables)) (nat_le (length script.tables) 16) (and_second (has_version script) (is_within 1 most_tables (length script.tables)) e) in
+      grind (arith, nat_tests, f)
+
   -- the tables of a valid workload are a shape
   pub is_shape : IsShape (shape_of script)
-  is_shape = record { blocks = blocks; slots = slots }
+  is_shape = record { tables = few_tables; blocks = blocks; slots = slots }
     where
       parts : (decl : TableDecl) → is_table decl ≡ true → (are_slots decl.schema decl.slots ≡ true) × (are_blocks decl.blocks ≡ true)
       parts decl is =
@@ -221,7 +253,7 @@ module _ (script : Script) (valid : is_valid script ≡ true) where
   event_key seat worker made (event.Delete own table key) told asked line is h =
       and_second (is_table_place script.tables table) (is_key_number key) (ap (is_command script.tables) (sym h.0) ∙ asked_fits seat asked is (ap is_upkeep h.0))
   event_key seat worker made (event.Read own table block) told asked line is h = tt
-  event_key seat worker made (event.Commit own) told asked line is h = tt
+  event_key seat worker made (event.Commit own reads) told asked line is h = tt
   event_key seat worker made (event.Abort own) told asked line is h = tt
   event_key seat worker made event.Oldest told asked line is h = tt
   event_key seat worker made (event.Observe table block) told asked line is h = tt

@@ -12,13 +12,15 @@ use Rattle.block_spec.specs.declared.phase.Phase.{Phase}
 use Rattle.block_spec.specs.declared.phase.Phase.TheVariants.{Loose, Sealed, Imaged}
 use Rattle.block_spec.specs.declared.phase.SealFault.{SealFault}
 use Rattle.event_spec.specs.declared.event.Event.TheVariants as event
+use Rattle.event_spec.specs.declared.own.OwnTransaction.{OwnTransaction}
 use Rattle.event_spec.specs.declared.reply.Reply.TheVariants as reply
 use Rattle.event_spec.specs.declared.reply.WriteFault.{WriteFault}
 use Rattle.event_spec.specs.declared.reply.WriteFault.TheVariants as refusal
-use Rattle.event_spec.specs.Effects.{CoreEvent, change_judged, insert_judged}
+use Rattle.event_spec.specs.Effects.{CoreEvent, change_judged, insert_judged, stale_in}
 use Rattle.event_spec.specs.Parts.{Parts, Shape, body_at, is_head}
-use Rattle.event_spec.specs.Replies.{CoreReply, reply_to, reply_to_image, reply_to_seal, reply_to_write}
+use Rattle.event_spec.specs.Replies.{CoreReply, reply_to, reply_to_commit, reply_to_image, reply_to_seal, reply_to_write}
 use Rattle.isolation_spec.specs.Contents.{key_of}
+use Rattle.isolation_spec.specs.declared.read.Read.{Read}
 use Rattle.outcome_spec.specs.Entries.{Entry, shown_in}
 use Rattle.outcome_spec.specs.Forms.{is_silent}
 use Rattle.outcome_spec.specs.Upkeep.{inserts_in, is_accepted_insert, rows_in, stamp_in}
@@ -27,7 +29,7 @@ use Rattle.workload_spec.specs.declared.reply.Said.{Said}
 use Rattle.workload_spec.specs.declared.reply.Said.TheVariants as said
 use Rattle.run_spec.specs.Calls.{line_to}
 use Rattle.run_spec.specs.Occurrences.{Occurrence}
-use Rattle.run_spec.specs.Told.{cause_told, told_by}
+use Rattle.run_spec.specs.Told.{cause_told, stale_of, told_by}
 use Rattle.store_laws.specs.Room.{inserted_by}
 use Rattle.run_laws.specs.Counts.Stamps.{imaged_by, sealed_by}
 use Rattle.run_laws.specs.Told.Laws.{TellsAt, TellsMove, TellsQuietly, is_plain, is_quiet}
@@ -218,6 +220,13 @@ module _ (shape : Shape) (parts : Parts) (t b : ℕ) (worker : Bool) (asked : Co
   move_adds r (inl h) = adds_none t b told said.Memory h.1 refl
   move_adds r (inr e) = adds_none t b told (said.Moved (Rattle.run_spec.specs.Told.moved_told r)) e refl
 
+  -- A commit's line, refused or not, adds no seal and no image.
+  commit_adds : (own : OwnTransaction) (stale : Option (Read × ℕ)) → told ≡ line_to worker (told_by 0 0 (reply_to_commit shape parts own stale)) → Adds t b told 0 0
+  commit_adds own (Some stale) is = adds_none t b told (said.Stale (stale_of stale.0) stale.1) (is ∙ not_silent worker (said.Stale (stale_of stale.0) stale.1) refl) refl
+  commit_adds own None is =
+      let n : Option ℕ = cond (Rattle.event_spec.specs.Effects.is_some_write own.writes) (Some ((Rattle.event_spec.specs.Parts.desk_at shape parts).commits + 1)) None in
+      adds_none t b told (said.Committed n) (is ∙ not_silent worker (said.Committed n) refl) refl
+
   -- a line at an event adds as many seals and images as the event
   pub event_adds : (e : CoreEvent) (refused : Bool) → TellsAt worker made e (cond refused reply.Memory (reply_to shape parts e)) asked told
       → Adds t b told (sealed_by t b e (cond refused reply.Memory (reply_to shape parts e))) (imaged_by t b e (cond refused reply.Memory (reply_to shape parts e)))
@@ -229,10 +238,8 @@ module _ (shape : Shape) (parts : Parts) (t b : ℕ) (worker : Bool) (asked : Co
   event_adds (event.Update own table row) refused h = write_adds table refused (change_judged shape parts own table (key_of row)) h.1
   event_adds (event.Delete own table key) refused h = write_adds table refused (change_judged shape parts own table key) h.1
   event_adds (event.Read own table block) refused h = quiet_adds t b asked made told h
-  event_adds (event.Commit own) true h = adds_none t b told said.Memory (h.1 ∙ not_silent worker said.Memory refl) refl
-  event_adds (event.Commit own) false h =
-      let n : Option ℕ = cond (Rattle.event_spec.specs.Effects.is_some_write own.writes) (Some ((Rattle.event_spec.specs.Parts.desk_at shape parts).commits + 1)) None in
-      adds_none t b told (said.Committed n) (h.1 ∙ not_silent worker (said.Committed n) refl) refl
+  event_adds (event.Commit own reads) true h = adds_none t b told said.Memory (h.1 ∙ not_silent worker said.Memory refl) refl
+  event_adds (event.Commit own reads) false h = commit_adds own (stale_in shape parts own reads) h.1
   event_adds (event.Abort own) true h = adds_none t b told said.Memory (h.1 ∙ not_silent worker said.Memory refl) refl
   event_adds (event.Abort own) false h = adds_none t b told said.Aborted (h.1 ∙ not_silent worker said.Aborted refl) refl
   event_adds event.Oldest refused h = quiet_adds t b asked made told h
@@ -268,7 +275,7 @@ module _ (shape : Shape) (parts : Parts) (t b : ℕ) (worker : Bool) (asked : Co
   insert_adds (event.Update own table row) refused h = omega arith
   insert_adds (event.Delete own table key) refused h = omega arith
   insert_adds (event.Read own table block) refused h = omega arith
-  insert_adds (event.Commit own) refused h = omega arith
+  insert_adds (event.Commit own reads) refused h = omega arith
   insert_adds (event.Abort own) refused h = omega arith
   insert_adds event.Oldest refused h = omega arith
   insert_adds (event.Observe table block) refused h = omega arith
@@ -287,7 +294,7 @@ quiet_none t b (event.Insert own table row) r q = absurd (true_false (sym q))
 quiet_none t b (event.Update own table row) r q = absurd (true_false (sym q))
 quiet_none t b (event.Delete own table key) r q = absurd (true_false (sym q))
 quiet_none t b (event.Read own table block) r q = (refl, refl, refl)
-quiet_none t b (event.Commit own) r q = absurd (true_false (sym q))
+quiet_none t b (event.Commit own reads) r q = absurd (true_false (sym q))
 quiet_none t b (event.Abort own) r q = absurd (true_false (sym q))
 quiet_none t b event.Oldest r q = (refl, refl, refl)
 quiet_none t b (event.Observe table block) r q = (refl, refl, refl)

@@ -15,6 +15,7 @@ use Rattle.std.proofs.lemmas.List.FromFn.{length-range_with_len}
 use Rattle.event_spec.specs.Parts.{Parts, Shape, below, blocks_of, slots_of}
 use Rattle.event_spec.specs.Replies.{CoreReply, reply_to}
 use Rattle.isolation_spec.specs.Machine.{IsolationMachine}
+use Rattle.isolation_spec.specs.Reads.{ReadSet}
 use Rattle.outcome_spec.specs.Forms.{is_silent, is_worker}
 use Rattle.timeline_spec.specs.Forms.{MayStand}
 use Rattle.workload_spec.specs.declared.command.Command.{Command}
@@ -37,7 +38,7 @@ use Rattle.run_laws.specs.Moments.Moments.{who_at}
 use Rattle.run_laws.proofs.Moments.Seats.{either}
 use Rattle.run_laws.proofs.Explained.Answering.{memory_stands, refusal_stands}
 use Rattle.run_laws.proofs.Explained.Exporting.{count_few, export_low, has_rows, number_low, read_few, read_long, replies_long}
-use Rattle.run_laws.proofs.Explained.Scripts.{is_shape, session_asked, worker_upkeep}
+use Rattle.run_laws.proofs.Explained.Scripts.{is_shape, not_range, not_total, session_asked, worker_upkeep}
 use Rattle.run_laws.proofs.Explained.Taking.{Ended, has_table, scanned, stand}
 
 -- What is told as one of two lines and as the other is one line.
@@ -49,30 +50,32 @@ line_same : (worker : Bool) (here line : Said) (told : Option Said) → is_silen
 line_same worker here line told loud is tells = same_line here line (sym (is ∙ not_silent worker here loud) ∙ tells)
 
 -- The event behind the quiet ones of a command is not quiet.
-loud_is : (shape : Shape) (own : Option OwnTransaction) (session : ℕ) (asked : Command) (made : List Occurrence) (l : CoreEvent) → loud_of shape own session asked made ≡ Some l → is_quiet l ≡ false
-loud_is shape own session command.Begin made l e = ap (λ (o : Option CoreEvent). option_map_or is_quiet o false) (sym e)
-loud_is shape own session (command.Get table key) made l e = absurd (let never : ⊥ = cc e in never)
-loud_is shape own session (command.Scan table) made l e = absurd (let never : ⊥ = cc e in never)
-loud_is shape None session (command.Insert table row) made l e = absurd (let never : ⊥ = cc e in never)
-loud_is shape (Some t) session (command.Insert table row) made l e = ap (λ (o : Option CoreEvent). option_map_or is_quiet o false) (sym e)
-loud_is shape None session (command.Update table row) made l e = absurd (let never : ⊥ = cc e in never)
-loud_is shape (Some t) session (command.Update table row) made l e = ap (λ (o : Option CoreEvent). option_map_or is_quiet o false) (sym e)
-loud_is shape None session (command.Delete table key) made l e = absurd (let never : ⊥ = cc e in never)
-loud_is shape (Some t) session (command.Delete table key) made l e = ap (λ (o : Option CoreEvent). option_map_or is_quiet o false) (sym e)
-loud_is shape None session command.Commit made l e = absurd (let never : ⊥ = cc e in never)
-loud_is shape (Some t) session command.Commit made l e = ap (λ (o : Option CoreEvent). option_map_or is_quiet o false) (sym e)
-loud_is shape None session command.Abort made l e = absurd (let never : ⊥ = cc e in never)
-loud_is shape (Some t) session command.Abort made l e = ap (λ (o : Option CoreEvent). option_map_or is_quiet o false) (sym e)
-loud_is shape own session command.Observe made l e = absurd (let never : ⊥ = cc e in never)
-loud_is shape own session command.Prune made l e = absurd (let never : ⊥ = cc e in never)
-loud_is shape own session (command.Compact table) made l e = go (Rattle.event_spec.specs.Plans.plan_of (Rattle.run_spec.specs.Asked.looks_in made)) e
+loud_is : (shape : Shape) (own : Option OwnTransaction) (handed : Option ReadSet) (session : ℕ) (asked : Command) (made : List Occurrence) (l : CoreEvent) → loud_of shape own handed session asked made ≡ Some l → is_quiet l ≡ false
+loud_is shape own handed session (command.Begin checked) made l e = ap (λ (o : Option CoreEvent). option_map_or is_quiet o false) (sym e)
+loud_is shape own handed session (command.Get table key) made l e = absurd (let never : ⊥ = cc e in never)
+loud_is shape own handed session (command.Scan table) made l e = absurd (let never : ⊥ = cc e in never)
+loud_is shape own handed session (command.Range table low high) made l e = absurd (let never : ⊥ = cc e in never)
+loud_is shape own handed session (command.Total table column low high) made l e = absurd (let never : ⊥ = cc e in never)
+loud_is shape None handed session (command.Insert table row) made l e = absurd (let never : ⊥ = cc e in never)
+loud_is shape (Some t) handed session (command.Insert table row) made l e = ap (λ (o : Option CoreEvent). option_map_or is_quiet o false) (sym e)
+loud_is shape None handed session (command.Update table row) made l e = absurd (let never : ⊥ = cc e in never)
+loud_is shape (Some t) handed session (command.Update table row) made l e = ap (λ (o : Option CoreEvent). option_map_or is_quiet o false) (sym e)
+loud_is shape None handed session (command.Delete table key) made l e = absurd (let never : ⊥ = cc e in never)
+loud_is shape (Some t) handed session (command.Delete table key) made l e = ap (λ (o : Option CoreEvent). option_map_or is_quiet o false) (sym e)
+loud_is shape None handed session command.Commit made l e = absurd (let never : ⊥ = cc e in never)
+loud_is shape (Some t) handed session command.Commit made l e = ap (λ (o : Option CoreEvent). option_map_or is_quiet o false) (sym e)
+loud_is shape None handed session command.Abort made l e = absurd (let never : ⊥ = cc e in never)
+loud_is shape (Some t) handed session command.Abort made l e = ap (λ (o : Option CoreEvent). option_map_or is_quiet o false) (sym e)
+loud_is shape own handed session command.Observe made l e = absurd (let never : ⊥ = cc e in never)
+loud_is shape own handed session command.Prune made l e = absurd (let never : ⊥ = cc e in never)
+loud_is shape own handed session (command.Compact table) made l e = go (Rattle.event_spec.specs.Plans.plan_of (Rattle.run_spec.specs.Asked.looks_in made)) e
   where
     go : (pairs : List Rattle.event_spec.specs.declared.event.MovePair.MovePair) → Rattle.run_laws.proofs.Told.Splits.move_of table pairs ≡ Some l → is_quiet l ≡ false
     go [] e = absurd (let never : ⊥ = cc e in never)
     go (p ∷ ps) e = ap (λ (o : Option CoreEvent). option_map_or is_quiet o false) (sym e)
-loud_is shape own session (command.Seal table block) made l e = ap (λ (o : Option CoreEvent). option_map_or is_quiet o false) (sym e)
-loud_is shape own session (command.Gather table block) made l e = ap (λ (o : Option CoreEvent). option_map_or is_quiet o false) (sym e)
-loud_is shape own session (command.Export table) made l e = absurd (let never : ⊥ = cc e in never)
+loud_is shape own handed session (command.Seal table block) made l e = ap (λ (o : Option CoreEvent). option_map_or is_quiet o false) (sym e)
+loud_is shape own handed session (command.Gather table block) made l e = ap (λ (o : Option CoreEvent). option_map_or is_quiet o false) (sym e)
+loud_is shape own handed session (command.Export table) made l e = absurd (let never : ⊥ = cc e in never)
 
 -- ---- lengths
 
@@ -125,29 +128,29 @@ module _ (script : Script) (valid : is_valid script ≡ true) (seat : ℕ) (part
   worker = is_worker (who_at script seat)
 
   -- a loud event is the last
-  at_loud : (own : Option OwnTransaction) (l : CoreEvent) → events_in call.made ≡ events_of (shape_of script) own seat call.command call.made
-      → loud_of (shape_of script) own seat call.command call.made ≡ Some l → MayStand call.command line
+  at_loud : (own : Option OwnTransaction) (l : CoreEvent) → events_in call.made ≡ events_of (shape_of script) own call.reads seat call.command call.made
+      → loud_of (shape_of script) own call.reads seat call.command call.made ≡ Some l → MayStand call.command line
   at_loud own l events is = go last
     where
       split : events_in call.made ≡ quiet_of (shape_of script) own call.command call.made ++ l ∷ []
-      split = events ∙ split_events (shape_of script) own seat call.command call.made ∙ ap (λ o. quiet_of (shape_of script) own call.command call.made ++ option_to_list o) is
+      split = events ∙ split_events (shape_of script) own call.reads seat call.command call.made ∙ ap (λ o. quiet_of (shape_of script) own call.command call.made ++ option_to_list o) is
 
       go : (call.made ≡ []) ⊎ LastStands call line → MayStand call.command line
       go (inl none) = absurd (none_behind (quiet_of (shape_of script) own call.command call.made) l [] (sym (ap events_in none) ∙ split))
       go (inr h) =
           let same : l ≡ h.made.event = init_same (quiet_of (shape_of script) own call.command call.made) (events_in h.done) l h.made.event
           (sym split ∙ ap events_in h.all ∙ events_append h.done (h.made ∷ [])) in
-          h.may (ap is_quiet (sym same) ∙ loud_is (shape_of script) own seat call.command call.made l is)
+          h.may (ap is_quiet (sym same) ∙ loud_is (shape_of script) own call.reads seat call.command call.made l is)
 
   -- a whole call without one
   at_quiet : (asked : Command) → call.command ≡ asked → (own : Option OwnTransaction) → own_after ended.began ≡ own → refusal_of asked own ≡ None → IsWhole (shape_of script) (is_worker (who_at script seat)) seat own call
-      → loud_of (shape_of script) own seat asked call.made ≡ None → MayStand asked line
-  at_quiet command.Begin is own mine free w none = absurd (let never : ⊥ = cc none in never)
+      → loud_of (shape_of script) own call.reads seat asked call.made ≡ None → MayStand asked line
+  at_quiet (command.Begin checked) is own mine free w none = absurd (let never : ⊥ = cc none in never)
   at_quiet (command.Get table key) is None mine free w none = absurd (let never : ⊥ = cc free in never)
   at_quiet (command.Get table key) is (Some t) mine free w none = go call.made refl
     where
       events : events_in call.made ≡ event.Get (own_key table key t) table key ∷ []
-      events = w.events ∙ ap (λ c. events_of (shape_of script) (Some t) seat c call.made) is
+      events = w.events ∙ ap (λ c. events_of (shape_of script) (Some t) call.reads seat c call.made) is
 
       told : call.told ≡ line_to (is_worker (who_at script seat)) (option_and_then (told_by table 0) (last_or None (replies_in call.made)))
       told = w.line ∙ ap (λ c. line_to (is_worker (who_at script seat)) (line_of (Some t) c (replies_in call.made))) is
@@ -175,7 +178,7 @@ module _ (script : Script) (valid : is_valid script ≡ true) (seat : ℕ) (part
       go : (seat ≤ script.sessions) ⊎ (script.sessions < seat) → MayStand (command.Scan table) line
       go (inr high) = let never : false ≡ true = ap Rattle.outcome_spec.specs.Forms.is_upkeep (sym is) ∙ worker_upkeep script seat call.command high ended.asked in absurd (let no : ⊥ = cc in no)
       go (inl low) =
-          let e : events_in call.made ≡ at_blocks (shape_of script) table (event.Read t table) = w.events ∙ ap (λ c. events_of (shape_of script) (Some t) seat c call.made) is in
+          let e : events_in call.made ≡ at_blocks (shape_of script) table (event.Read t table) = w.events ∙ ap (λ c. events_of (shape_of script) (Some t) call.reads seat c call.made) is in
           let has : is_some (slice_get script.tables table) ≡ true = ap (is_command script.tables) (sym is) ∙ session_asked script valid seat call.command low ended.asked in
           let s = scanned script valid seat parts front at next call ended t table mine (ap Rattle.run_laws.specs.Calls.Coming.is_single is) has e w.granted in
           let few = flat_stands (replies_in call.made) (slots_of (shape_of script) table) (λ y a. stood e y a) in
@@ -199,6 +202,16 @@ module _ (script : Script) (valid : is_valid script ≡ true) (seat : ℕ) (part
               let few = (stand script valid seat parts front at next call ended t table (below (blocks_of (shape_of script) table)) e o.0 o.1 t table b.0 b.2).few in
               let same = ap (λ r. length (rows_told r)) o.2 in
               omega (arith, few, same)
+  at_quiet (command.Range table low high) is own mine free w none = absurd (no_range (either script seat))
+    where
+      no_range : (seat ≤ script.sessions) ⊎ (script.sessions < seat) → ⊥
+      no_range (inl least) = not_range script valid seat call.command least ended.asked table low high is
+      no_range (inr high') = let never : false ≡ true = ap Rattle.outcome_spec.specs.Forms.is_upkeep (sym is) ∙ worker_upkeep script seat call.command high' ended.asked in let no : ⊥ = cc in no
+  at_quiet (command.Total table column low high) is own mine free w none = absurd (no_total (either script seat))
+    where
+      no_total : (seat ≤ script.sessions) ⊎ (script.sessions < seat) → ⊥
+      no_total (inl least) = not_total script valid seat call.command least ended.asked table column low high is
+      no_total (inr high') = let never : false ≡ true = ap Rattle.outcome_spec.specs.Forms.is_upkeep (sym is) ∙ worker_upkeep script seat call.command high' ended.asked in let no : ⊥ = cc in no
   at_quiet (command.Insert table row) is None mine free w none = absurd (let never : ⊥ = cc free in never)
   at_quiet (command.Insert table row) is (Some t) mine free w none = absurd (let never : ⊥ = cc none in never)
   at_quiet (command.Update table row) is None mine free w none = absurd (let never : ⊥ = cc free in never)
@@ -210,7 +223,7 @@ module _ (script : Script) (valid : is_valid script ≡ true) (seat : ℕ) (part
   at_quiet command.Abort is None mine free w none = absurd (let never : ⊥ = cc free in never)
   at_quiet command.Abort is (Some t) mine free w none = absurd (let never : ⊥ = cc none in never)
   at_quiet command.Observe is own mine free w none =
-      let e : events_in call.made ≡ at_all_blocks (shape_of script) event.Observe = w.events ∙ ap (λ c. events_of (shape_of script) own seat c call.made) is in
+      let e : events_in call.made ≡ at_all_blocks (shape_of script) event.Observe = w.events ∙ ap (λ c. events_of (shape_of script) own call.reads seat c call.made) is in
       let few = count_few is_turned (replies_in call.made) in
       let long = replies_long call.made in
       let all = ap (λ (es : List CoreEvent). length es) e in
@@ -224,7 +237,7 @@ module _ (script : Script) (valid : is_valid script ≡ true) (seat : ℕ) (part
       (inl (fits (sum_by dropped_told (replies_in call.made)) (told ∙ not_silent (is_worker (who_at script seat)) (said.Pruned (sum_by dropped_told (replies_in call.made))) refl)))
   at_quiet (command.Compact table) is own mine free w none =
       let e : events_in call.made ≡ quiet_of (shape_of script) own (command.Compact table) call.made =
-      w.events ∙ ap (λ c. events_of (shape_of script) own seat c call.made) is ∙ split_events (shape_of script) own seat (command.Compact table) call.made
+      w.events ∙ ap (λ c. events_of (shape_of script) own call.reads seat c call.made) is ∙ split_events (shape_of script) own call.reads seat (command.Compact table) call.made
       ∙ ap (λ o. quiet_of (shape_of script) own (command.Compact table) call.made ++ option_to_list o) none ∙ append-nil (quiet_of (shape_of script) own (command.Compact table) call.made) in
       let sum = sum_unmoved (shape_of script) call.made ended.replied (ap (list_all is_quiet) e ∙ are_quiet (shape_of script) own (command.Compact table) call.made) in
       subst (MayStand (command.Compact table)) (line_same (is_worker (who_at script seat)) (said.Moved (sum_by moved_told (replies_in call.made))) line call.told refl
@@ -234,7 +247,7 @@ module _ (script : Script) (valid : is_valid script ≡ true) (seat : ℕ) (part
   at_quiet (command.Gather table block) is own mine free w none = absurd (let never : ⊥ = cc none in never)
   at_quiet (command.Export table) is None mine free w none = absurd (let never : ⊥ = cc free in never)
   at_quiet (command.Export table) is (Some t) mine free w none =
-      let e : events_in call.made ≡ at_blocks (shape_of script) table (event.Read t table) = w.events ∙ ap (λ c. events_of (shape_of script) (Some t) seat c call.made) is in
+      let e : events_in call.made ≡ at_blocks (shape_of script) table (event.Read t table) = w.events ∙ ap (λ c. events_of (shape_of script) (Some t) call.reads seat c call.made) is in
       let low = export_low script valid seat parts front at next call ended table is in
       let has : is_some (slice_get script.tables table) ≡ true = ap (is_command script.tables) (sym is) ∙ session_asked script valid seat call.command low ended.asked in
       let number = number_low script valid seat parts front at next call ended table is t mine e w.granted in
@@ -262,8 +275,8 @@ module _ (script : Script) (valid : is_valid script ≡ true) (seat : ℕ) (part
       go : (r : Option Said) → refusal_of call.command (own_after ended.began) ≡ r → IsCallBy (shape_of script) (is_worker (who_at script seat)) seat (own_after ended.began) r call → MayStand call.command line
       go (Some refused) e h = subst (MayStand call.command) (same_line refused line (sym h.1 ∙ tells)) (refusal_stands call.command (own_after ended.began) refused ended.keys.fit e)
       go None e (inr p) = subst (MayStand call.command) (same_line said.Memory line (sym p.line ∙ tells)) (memory_stands call.command p.may)
-      go None e (inl w) = by (loud_of (shape_of script) (own_after ended.began) seat call.command call.made) refl
+      go None e (inl w) = by (loud_of (shape_of script) (own_after ended.began) call.reads seat call.command call.made) refl
         where
-          by : (o : Option CoreEvent) → loud_of (shape_of script) (own_after ended.began) seat call.command call.made ≡ o → MayStand call.command line
+          by : (o : Option CoreEvent) → loud_of (shape_of script) (own_after ended.began) call.reads seat call.command call.made ≡ o → MayStand call.command line
           by (Some l) is = at_loud (own_after ended.began) l w.events is
           by None is = at_quiet call.command refl (own_after ended.began) refl e w is

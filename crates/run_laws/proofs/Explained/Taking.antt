@@ -1,5 +1,5 @@
 -- A line comes about at its call's last event.
-use Rattle.std.proofs.Common.{◌≡◌, ◌⊎◌, ℕ, zero, suc, ◌-◌, ◌<◌, ◌≤◌, nat_lt, Bool, true, false, cond, List, [], ◌∷◌, ◌++◌, length, map, Option, None, Some, option_map, is_some, is_none, refl, sym, ap, ◌∙◌, subst, arith, append_assoc}
+use Rattle.std.proofs.Common.{◌≡◌, ◌⊎◌, ℕ, zero, suc, ◌-◌, ◌<◌, ◌≤◌, nat_lt, Bool, true, false, cond, List, [], ◌∷◌, ◌++◌, length, map, Option, None, Some, option_map, is_some, is_none, refl, sym, ap, ◌∙◌, subst, arith, append_assoc, ℤ}
 use mathlib.Core.Logic.{inl, inr}
 use Rattle.std.specs.Prelude.{IfSome, IsSome, fold, slice_get}
 use Rattle.std.specs.List.{flat_map, list_all, list_any, range_with_len}
@@ -14,7 +14,7 @@ use Rattle.core_laws.specs.Events.Laws.{IsStep, command_in}
 use Rattle.core_laws.specs.Events.Named.{FollowsMachine}
 use Rattle.event_spec.specs.declared.event.Event.TheVariants as event
 use Rattle.event_spec.specs.declared.own.OwnTransaction.{OwnTransaction}
-use Rattle.event_spec.specs.Lawful.{Among, OwnsAll}
+use Rattle.event_spec.specs.Lawful.{Among, OwnsAll, reads_handed}
 use Rattle.event_spec.specs.Parts.{Parts, Shape, below, blocks_of, desk_at}
 use Rattle.event_spec.specs.Sound.{Sound}
 use Rattle.isolation_spec.specs.Contents.{contents_of}
@@ -23,8 +23,10 @@ use Rattle.isolation_spec.specs.Store.{Answered, Memory}
 use Rattle.isolation_spec.specs.declared.command.Act.TheVariants as act
 use Rattle.isolation_spec.specs.declared.command.Answer.TheVariants as answer
 use Rattle.isolation_spec.specs.declared.command.Command.{Command as Request}
-use Rattle.outcome_spec.specs.Entries.{Entry}
+use Rattle.isolation_spec.specs.Reads.{ReadSet}
+use Rattle.outcome_spec.specs.Entries.{Entry, thread}
 use Rattle.outcome_spec.specs.Forms.{is_upkeep, is_worker}
+use Rattle.outcome_spec.specs.Stale.{reads_after}
 use Rattle.timeline_spec.specs.Timeline.{Answers, ExportsBy, Takes, is_of_upkeep, request_of}
 use Rattle.workload_spec.specs.declared.command.Command.{Command}
 use Rattle.workload_spec.specs.declared.command.Command.TheVariants as command
@@ -58,7 +60,7 @@ use Rattle.run_laws.specs.Explained.Reads.{ReadsStandIn, Stands}
 use Rattle.store_laws.specs.Stretches.{reads_block}
 use Rattle.run_laws.proofs.Explained.Keys.{SameKeys, quiet_own}
 use Rattle.run_laws.proofs.Explained.Rereading.{read_together}
-use Rattle.run_laws.proofs.Explained.Scripts.{is_shape, session_asked, worker_upkeep}
+use Rattle.run_laws.proofs.Explained.Scripts.{is_shape, not_range, not_total, session_asked, worker_upkeep}
 
 -- What is true is not false.
 true_false : true ≡ false → ⊥
@@ -94,7 +96,7 @@ front_quiet shape worker seat began call pre (x ∷ xs) last is all = and_from (
     here (y ∷ ys) all = calls_go_on_quietly shape worker seat began call pre x y (ys ++ last ∷ []) is all
 
 -- a call ends with its last event's step of the machine
-pub ends_at : (done : List Occurrence) (last : Occurrence) (at next : IsolationMachine) → IsStep (command_in last.event) at last.reply next → EndsAt (done ++ last ∷ []) at next
+pub ends_at : (done : List Occurrence) (last : Occurrence) (at next : IsolationMachine) → IsStep (command_in last.event) (reads_handed last.event) at last.reply next → EndsAt (done ++ last ∷ []) at next
 ends_at [] last at next step = step
 ends_at (x ∷ []) last at next step = step
 ends_at (x ∷ y ∷ done) last at next step = ends_at (y ∷ done) last at next step
@@ -104,7 +106,7 @@ pub stays_at : (made : List Occurrence) (at next : IsolationMachine) → list_al
 stays_at [] at next asks ends = ends
 stays_at (x ∷ []) at next asks ends = go (command_in x.event) (and_first (asks_nothing x.event) true asks) ends
   where
-    go : (o : Option Request) → is_none o ≡ true → IsStep o at x.reply next → next ≡ at
+    go : (o : Option Request) → is_none o ≡ true → IsStep o (reads_handed x.event) at x.reply next → next ≡ at
     go None e h = h
     go (Some c) e h = absurd (true_false (sym e))
 stays_at (x ∷ y ∷ made) at next asks ends = stays_at (y ∷ made) at next (and_second (asks_nothing x.event) (list_all asks_nothing (events_in (y ∷ made))) asks) ends
@@ -222,9 +224,9 @@ module _ (script : Script) (valid : is_valid script ≡ true) (seat : ℕ) (part
   asks table = record { session = seat; act = act.Scan table }
 
   -- A session's scan that told a line is answered so by the machine.
-  scan_by : (table : ℕ) (line : Said) → call.command ≡ command.Scan table → is_worker (who_at script seat) ≡ false → seat ≤ script.sessions → call.told ≡ Some line
-      → Answers at (record { session = seat; act = act.Scan table }) line next
-  scan_by table line is session low tells = go (own_after ended.began) refl
+  scan_by : (reads : Option ReadSet) (table : ℕ) (line : Said) → call.command ≡ command.Scan table → is_worker (who_at script seat) ≡ false → seat ≤ script.sessions → call.told ≡ Some line
+      → Answers at reads (record { session = seat; act = act.Scan table }) line next
+  scan_by reads table line is session low tells = go (own_after ended.began) refl
       (subst (λ w. IsCall (shape_of script) w seat ended.began call) session ended.is_call)
     where
       other : is_single call.command ≡ false
@@ -234,7 +236,7 @@ module _ (script : Script) (valid : is_valid script ≡ true) (seat : ℕ) (part
       keeps = stays (ap is_single is)
 
       go : (o : Option OwnTransaction) → own_after ended.began ≡ o → IsCallBy (shape_of script) false seat (own_after ended.began) (refusal_of call.command (own_after ended.began)) call
-          → Answers at (record { session = seat; act = act.Scan table }) line next
+          → Answers at reads (record { session = seat; act = act.Scan table }) line next
       go None mine h =
           let r : (call.made ≡ []) × (call.told ≡ Some said.NoTransaction) =
           subst (λ r. IsCallBy (shape_of script) false seat (own_after ended.began) r call) (ap (λ c. refusal_of c (own_after ended.began)) is ∙ ap (refusal_of (command.Scan table)) mine) h in
@@ -247,11 +249,11 @@ module _ (script : Script) (valid : is_valid script ≡ true) (seat : ℕ) (part
       go (Some own) mine h = made (subst (λ r. IsCallBy (shape_of script) false seat (own_after ended.began) r call) (ap (λ c. refusal_of c (own_after ended.began)) is ∙ ap (refusal_of (command.Scan table)) mine) h)
         where
           made : IsWhole (shape_of script) false seat (own_after ended.began) call ⊎ IsPart (shape_of script) seat (own_after ended.began) call
-              → Answers at (record { session = seat; act = act.Scan table }) line next
+              → Answers at reads (record { session = seat; act = act.Scan table }) line next
           made (inl w) =
               let e : events_in call.made ≡ at_blocks (shape_of script) table (event.Read own table) =
-              w.events ∙ ap (λ c. Rattle.run_spec.specs.Asked.events_of (shape_of script) (own_after ended.began) seat c call.made) is
-              ∙ ap (λ o. Rattle.run_spec.specs.Asked.events_of (shape_of script) o seat (command.Scan table) call.made) mine in
+              w.events ∙ ap (λ c. Rattle.run_spec.specs.Asked.events_of (shape_of script) (own_after ended.began) call.reads seat c call.made) is
+              ∙ ap (λ o. Rattle.run_spec.specs.Asked.events_of (shape_of script) o call.reads seat (command.Scan table) call.made) mine in
               let has : is_some (slice_get script.tables table) ≡ true = ap (is_command script.tables) (sym is) ∙ session_asked script valid seat call.command low ended.asked in
               let s = scanned own table mine (ap is_single is) has e w.granted in
               let told : call.told ≡ Some (said.Scanned (in_key_order table (flat_map rows_told (replies_in call.made)))) =
@@ -283,31 +285,37 @@ entry_as entry who asked line = record {
 
 -- Whatever a session is asked, its line comes about where each kind of command's does.
 session_takes : (tables : List TableDecl) (lines : List Entry) (at next : IsolationMachine) (entry : Entry) (seat : ℕ) (asked : Command) (line : Said)
-    → (is_single asked ≡ true → IfSome (request_of (Session seat) asked) (λ request. Answers at request line next))
-    → ((table : ℕ) → asked ≡ command.Scan table → Answers at (record { session = seat; act = act.Scan table }) line next)
+    → (is_single asked ≡ true → IfSome (request_of (Session seat) asked) (λ request. Answers at (reads_after (thread (Session seat) lines)) request line next))
+    → ((table : ℕ) → asked ≡ command.Scan table → Answers at (reads_after (thread (Session seat) lines)) (record { session = seat; act = act.Scan table }) line next)
+    → ((table : ℕ) (low high : ℤ) → asked ≡ command.Range table low high → ⊥)
+    → ((table column : ℕ) (low high : ℤ) → asked ≡ command.Total table column low high → ⊥)
     → ((table : ℕ) → asked ≡ command.Export table → ExportsBy tables lines at (transaction_of seat at) table line × (next ≡ at))
     → (is_upkeep asked ≡ true → (is_of_upkeep line ≡ true) × (next ≡ at))
     → Takes tables lines at (entry_as entry (Session seat) asked line) next
-session_takes tables lines at next entry seat command.Begin line come scan export upkeep = come refl
-session_takes tables lines at next entry seat (command.Get table key) line come scan export upkeep = come refl
-session_takes tables lines at next entry seat (command.Scan table) line come scan export upkeep = scan table refl
-session_takes tables lines at next entry seat (command.Insert table row) line come scan export upkeep = come refl
-session_takes tables lines at next entry seat (command.Update table row) line come scan export upkeep = come refl
-session_takes tables lines at next entry seat (command.Delete table key) line come scan export upkeep = come refl
-session_takes tables lines at next entry seat command.Commit line come scan export upkeep = come refl
-session_takes tables lines at next entry seat command.Abort line come scan export upkeep = come refl
-session_takes tables lines at next entry seat command.Observe line come scan export upkeep = let u = upkeep refl in ((refl, u.0), u.1)
-session_takes tables lines at next entry seat command.Prune line come scan export upkeep = let u = upkeep refl in ((refl, u.0), u.1)
-session_takes tables lines at next entry seat (command.Compact table) line come scan export upkeep = let u = upkeep refl in ((refl, u.0), u.1)
-session_takes tables lines at next entry seat (command.Seal table block) line come scan export upkeep = let u = upkeep refl in ((refl, u.0), u.1)
-session_takes tables lines at next entry seat (command.Gather table block) line come scan export upkeep = let u = upkeep refl in ((refl, u.0), u.1)
-session_takes tables lines at next entry seat (command.Export table) line come scan export upkeep = export table refl
+session_takes tables lines at next entry seat (command.Begin checked) line come scan range total export upkeep = come refl
+session_takes tables lines at next entry seat (command.Get table key) line come scan range total export upkeep = come refl
+session_takes tables lines at next entry seat (command.Scan table) line come scan range total export upkeep = scan table refl
+session_takes tables lines at next entry seat (command.Range table low high) line come scan range total export upkeep = absurd (range table low high refl)
+session_takes tables lines at next entry seat (command.Total table column low high) line come scan range total export upkeep = absurd (total table column low high refl)
+session_takes tables lines at next entry seat (command.Insert table row) line come scan range total export upkeep = come refl
+session_takes tables lines at next entry seat (command.Update table row) line come scan range total export upkeep = come refl
+session_takes tables lines at next entry seat (command.Delete table key) line come scan range total export upkeep = come refl
+session_takes tables lines at next entry seat command.Commit line come scan range total export upkeep = come refl
+session_takes tables lines at next entry seat command.Abort line come scan range total export upkeep = come refl
+session_takes tables lines at next entry seat command.Observe line come scan range total export upkeep = let u = upkeep refl in ((refl, u.0), u.1)
+session_takes tables lines at next entry seat command.Prune line come scan range total export upkeep = let u = upkeep refl in ((refl, u.0), u.1)
+session_takes tables lines at next entry seat (command.Compact table) line come scan range total export upkeep = let u = upkeep refl in ((refl, u.0), u.1)
+session_takes tables lines at next entry seat (command.Seal table block) line come scan range total export upkeep = let u = upkeep refl in ((refl, u.0), u.1)
+session_takes tables lines at next entry seat (command.Gather table block) line come scan range total export upkeep = let u = upkeep refl in ((refl, u.0), u.1)
+session_takes tables lines at next entry seat (command.Export table) line come scan range total export upkeep = export table refl
 
 -- A command of upkeep is none that is a single request of the machine.
 upkeep_other : (asked : Command) → is_upkeep asked ≡ true → is_single asked ≡ false
-upkeep_other command.Begin e = absurd (true_false (sym e))
+upkeep_other (command.Begin checked) e = absurd (true_false (sym e))
 upkeep_other (command.Get table key) e = absurd (true_false (sym e))
 upkeep_other (command.Scan table) e = refl
+upkeep_other (command.Range table low high) e = refl
+upkeep_other (command.Total table column low high) e = refl
 upkeep_other (command.Insert table row) e = absurd (true_false (sym e))
 upkeep_other (command.Update table row) e = absurd (true_false (sym e))
 upkeep_other (command.Delete table key) e = absurd (true_false (sym e))
@@ -324,9 +332,10 @@ upkeep_other (command.Export table) e = refl
 pub takes : (script : Script) (valid : is_valid script ≡ true) (seat : ℕ) (parts : Parts) (front : List Occurrence) (at next : IsolationMachine) (call : Call) (lines : List Entry) (entry : Entry)
     → Ended script seat parts front at next call
     → call.told ≡ Some entry.reply.said → entry.reply.who ≡ who_at script seat → entry.command ≡ command_told (who_at script seat) call.command
+    → (is_worker (who_at script seat) ≡ false → call.reads ≡ reads_after (thread (who_at script seat) lines))
     → ((table : ℕ) → call.command ≡ command.Export table → ExportsBy script.tables lines at (transaction_of seat at) table entry.reply.said)
     → Takes script.tables lines at entry next
-takes script valid seat parts front at next call lines entry ended tells who asked export = go (either script seat)
+takes script valid seat parts front at next call lines entry ended tells who asked read export = go (either script seat)
   where
     line : Said
     line = entry.reply.said
@@ -345,11 +354,15 @@ takes script valid seat parts front at next call lines entry ended tells who ask
     go (inl low) =
         let session = session_at script seat low in
         let is_session : is_worker (who_at script seat) ≡ false = ap is_worker session in
+        let handed : call.reads ≡ reads_after (thread (Session seat) lines) = read is_session ∙ ap (λ w. reads_after (thread w lines)) session in
         as_is (Session seat) call.command (who ∙ session) (asked ∙ ap (λ b. cond b command.Observe call.command) is_session)
         (session_takes script.tables lines at next entry seat call.command entry.reply.said
-        (λ single. lines_come_about (shape_of script) seat ended.began call entry.reply.said at next single
-        (subst (λ w. IsCall (shape_of script) w seat ended.began call) is_session ended.is_call) tells ended.open' ended.ends)
-        (λ table is. scan_by script valid seat parts front at next call ended table entry.reply.said is is_session low tells)
+        (λ single. subst (λ reads. IfSome (request_of (Session seat) call.command) (λ request. Answers at reads request entry.reply.said next)) handed
+        (lines_come_about (shape_of script) seat ended.began call entry.reply.said at next single
+        (subst (λ w. IsCall (shape_of script) w seat ended.began call) is_session ended.is_call) tells ended.open' ended.ends))
+        (λ table is. scan_by script valid seat parts front at next call ended (reads_after (thread (Session seat) lines)) table entry.reply.said is is_session low tells)
+        (not_range script valid seat call.command low ended.asked)
+        (not_total script valid seat call.command low ended.asked)
         (λ table is. (export table is, stays script valid seat parts front at next call ended (ap is_single is)))
         upkeep)
     go (inr high) =

@@ -10,14 +10,15 @@ use Rattle.core_laws.specs.Events.Named.{FollowsMachine}
 use Rattle.event_spec.specs.declared.event.Event.TheVariants as event
 use Rattle.event_spec.specs.declared.own.OwnTransaction.{OwnTransaction}
 use Rattle.event_spec.specs.declared.reply.Reply.TheVariants as reply
-use Rattle.event_spec.specs.Effects.{CoreEvent, change_judged, insert_judged}
-use Rattle.event_spec.specs.Lawful.{Among, IsLawful, session_of, takes_memory}
+use Rattle.event_spec.specs.Effects.{CoreEvent, change_judged, insert_judged, stale_in}
+use Rattle.event_spec.specs.Lawful.{Among, IsLawful, reads_handed, session_of, takes_memory}
 use Rattle.event_spec.specs.Parts.{Parts, Shape}
 use Rattle.event_spec.specs.Replay.{IsLawfulFrom, after, opening, reply_after}
-use Rattle.event_spec.specs.Replies.{reply_to}
+use Rattle.event_spec.specs.Replies.{reply_to, reply_to_commit}
 use Rattle.isolation_spec.specs.Contents.{key_of}
 use Rattle.isolation_spec.specs.Machine.{IsolationMachine, transaction_of}
 use Rattle.isolation_spec.specs.Machine as machine
+use Rattle.isolation_spec.specs.declared.read.Read.{Read}
 use Rattle.outcome_spec.specs.Entries.{Entry, shown_in}
 use Rattle.outcome_spec.specs.Runs.{writes_committed_in}
 use Rattle.outcome_spec.specs.Forms.{is_upkeep, is_worker}
@@ -34,7 +35,8 @@ use Rattle.run_spec.specs.Calls.{Call, line_to}
 use Rattle.run_spec.specs.Occurrences.{Logged, Occurrence, events_in, occurrence_of, occurrences_from, replies_in, under}
 use Rattle.run_spec.specs.Opened.{own_after}
 use Rattle.run_spec.specs.Ran.{shape_of}
-use Rattle.run_spec.specs.Told.{dropped_told, is_shared}
+use Rattle.run_spec.specs.Told.{dropped_told, is_shared, stale_of, told_by}
+use Rattle.run_laws.proofs.Moments.Reads.{Reads, ReadsAt, runs_read}
 use Rattle.run_laws.proofs.Calls.Along.{and_first, and_second, named}
 use Rattle.run_laws.specs.Calls.Along.{are_named}
 use Rattle.run_laws.specs.Calls.Asking.{is_of}
@@ -78,7 +80,7 @@ pruning_quiet (event.Insert own table row) p = absurd (true_false (sym p))
 pruning_quiet (event.Update own table row) p = absurd (true_false (sym p))
 pruning_quiet (event.Delete own table key) p = absurd (true_false (sym p))
 pruning_quiet (event.Read own table block) p = absurd (true_false (sym p))
-pruning_quiet (event.Commit own) p = absurd (true_false (sym p))
+pruning_quiet (event.Commit own reads) p = absurd (true_false (sym p))
 pruning_quiet (event.Abort own) p = absurd (true_false (sym p))
 pruning_quiet (event.Observe table block) p = absurd (true_false (sym p))
 pruning_quiet (event.Look table block) p = absurd (true_false (sym p))
@@ -93,10 +95,18 @@ pruning_quiet (event.Thaw table block) p = absurd (true_false (sym p))
 pub told_something : (told : Option Said) (line : Said) → told ≡ Some line → told ≡ None → ⊥
 told_something told line is none = none-some line (sym none ∙ is)
 
+-- A commit, refused or not, is not silent.
+commit_heard : (shape : Shape) (parts : Parts) (worker : Bool) (told : Option Said) (own : OwnTransaction) (stale : Option (Read × ℕ)) → told ≡ line_to worker (told_by 0 0 (reply_to_commit shape parts own stale)) → told ≡ None → ⊥
+commit_heard shape parts worker told own (Some stale) is none =
+    told_something told (said.Stale (stale_of stale.0) stale.1) (is ∙ not_silent worker (said.Stale (stale_of stale.0) stale.1) refl) none
+commit_heard shape parts worker told own None is none =
+    let n : Option ℕ = cond (Rattle.event_spec.specs.Effects.is_some_write own.writes) (Some ((Rattle.event_spec.specs.Parts.desk_at shape parts).commits + 1)) None in
+    told_something told (said.Committed n) (is ∙ not_silent worker (said.Committed n) refl) none
+
 -- An event at which a call ends in silence leaves the machine.
 silent_stays : (shape : Shape) (parts : Parts) (worker : Bool) (made : List Occurrence) (asked : Command) (told : Option Said) (at next : IsolationMachine) (e : CoreEvent) (refused : Bool)
     → TellsAt worker made e (cond refused reply.Memory (reply_to shape parts e)) asked told → told ≡ None
-    → IsStep (command_in e) at (cond refused reply.Memory (reply_to shape parts e)) next → next ≡ at
+    → IsStep (command_in e) (reads_handed e) at (cond refused reply.Memory (reply_to shape parts e)) next → next ≡ at
 silent_stays shape parts worker made asked told at next (event.Begin session) true h none step = absurd (told_something told said.Memory (h.1 ∙ not_silent worker said.Memory refl) none)
 silent_stays shape parts worker made asked told at next (event.Begin session) false h none step =
     absurd (told_something told (said.At (Rattle.event_spec.specs.Parts.desk_at shape parts).commits) (h.1 ∙ not_silent worker (said.At (Rattle.event_spec.specs.Parts.desk_at shape parts).commits) refl) none)
@@ -111,10 +121,8 @@ silent_stays shape parts worker made asked told at next (event.Delete own table 
 silent_stays shape parts worker made asked told at next (event.Delete own table key) false h none step =
     let w = write_line table (change_judged shape parts own table key) in absurd (told_something told w.0 (h.1 ∙ ap (line_to worker) w.1 ∙ not_silent worker w.0 w.2) none)
 silent_stays shape parts worker made asked told at next (event.Read own table block) refused h none step = step
-silent_stays shape parts worker made asked told at next (event.Commit own) true h none step = absurd (told_something told said.Memory (h.1 ∙ not_silent worker said.Memory refl) none)
-silent_stays shape parts worker made asked told at next (event.Commit own) false h none step =
-    let n : Option ℕ = cond (Rattle.event_spec.specs.Effects.is_some_write own.writes) (Some ((Rattle.event_spec.specs.Parts.desk_at shape parts).commits + 1)) None in
-    absurd (told_something told (said.Committed n) (h.1 ∙ not_silent worker (said.Committed n) refl) none)
+silent_stays shape parts worker made asked told at next (event.Commit own reads) true h none step = absurd (told_something told said.Memory (h.1 ∙ not_silent worker said.Memory refl) none)
+silent_stays shape parts worker made asked told at next (event.Commit own reads) false h none step = absurd (commit_heard shape parts worker told own (stale_in shape parts own reads) h.1 none)
 silent_stays shape parts worker made asked told at next (event.Abort own) true h none step = absurd (told_something told said.Memory (h.1 ∙ not_silent worker said.Memory refl) none)
 silent_stays shape parts worker made asked told at next (event.Abort own) false h none step = absurd (told_something told said.Aborted (h.1 ∙ not_silent worker said.Aborted refl) none)
 silent_stays shape parts worker made asked told at next event.Oldest refused h none step = step
@@ -134,9 +142,11 @@ upkeep_accepted t command.Prune (Some line) up = refl
 upkeep_accepted t (command.Compact table) (Some line) up = refl
 upkeep_accepted t (command.Seal table block) (Some line) up = refl
 upkeep_accepted t (command.Gather table block) (Some line) up = refl
-upkeep_accepted t command.Begin (Some line) up = absurd (true_false (sym up))
+upkeep_accepted t (command.Begin checked) (Some line) up = absurd (true_false (sym up))
 upkeep_accepted t (command.Get table key) (Some line) up = absurd (true_false (sym up))
 upkeep_accepted t (command.Scan table) (Some line) up = absurd (true_false (sym up))
+upkeep_accepted t (command.Range table low high) (Some line) up = absurd (true_false (sym up))
+upkeep_accepted t (command.Total table column low high) (Some line) up = absurd (true_false (sym up))
 upkeep_accepted t (command.Insert table row) (Some line) up = absurd (true_false (sym up))
 upkeep_accepted t (command.Update table row) (Some line) up = absurd (true_false (sym up))
 upkeep_accepted t (command.Delete table key) (Some line) up = absurd (true_false (sym up))
@@ -228,17 +238,17 @@ module _ (script : Script) (valid : is_valid script ≡ true) where
     same_said : (a b : Said) → Some a ≡ Some b → a ≡ b
     same_said a b e = cc
 
-    alone_comes : (entry : Entry) → line.printed ≡ Some entry → Takes script.tables lines at entry at × Counts script.tables lines entry.command entry.reply.said
-    alone_comes entry e =
+    alone_comes : (is_worker (who_at script seat) ≡ false → Reads script lines seat line.call) → (entry : Entry) → line.printed ≡ Some entry → Takes script.tables lines at entry at × Counts script.tables lines entry.command entry.reply.said
+    alone_comes read entry e =
         let is = is_said (who_at script seat) line.call line.printed entry ends.printed e in (
-          takes script valid seat parts front at at line.call lines entry alone_ended is.0 is.1 is.2
+          takes script valid seat parts front at at line.call lines entry alone_ended is.0 is.1 is.2 (λ session. (read session).told)
               (λ table asked. exports_by script valid seat parts front at at line.call alone_ended table asked lines entry.reply.said is.0
               (λ o among. absurd (subst (Among o) none among))),
           subst (Counts script.tables lines entry.command) (same_said plain.0 entry.reply.said (sym plain.1 ∙ is.0)) (alone_counts entry.command plain.0 plain.2),
         )
 
-    alone : (moments : List Moment) → Runs script.tables (with_reply lines line.printed) at (replies_at moments) → Runs script.tables lines at (cons_option line.printed (replies_at moments))
-    alone moments rest = lines_on at at lines line.printed moments (λ e. refl) alone_comes rest
+    alone : (is_worker (who_at script seat) ≡ false → Reads script lines seat line.call) → (moments : List Moment) → Runs script.tables (with_reply lines line.printed) at (replies_at moments) → Runs script.tables lines at (cons_option line.printed (replies_at moments))
+    alone read moments rest = lines_on at at lines line.printed moments (λ e. refl) (alone_comes read) rest
 
   -- a moment with an event
   module _ (parts : Parts) (front : List Occurrence) (at : IsolationMachine) (lines : List Entry) (seat : ℕ) (low : 1 ≤ seat) (high : seat ≤ script.sessions + script.workers) (entry : Logged) (same : entry.session ≡ seat)
@@ -248,7 +258,7 @@ module _ (script : Script) (valid : is_valid script ≡ true) where
     made = occurrence_of (shape_of script) parts entry
 
     -- an event is a step of the machine, and the parts go on following it
-    pub moved : (next : IsolationMachine) × IsStep (command_in entry.made.event) at (reply_after (shape_of script) parts entry.made) next × FollowsMachine (shape_of script) (after (shape_of script) parts entry.made) next
+    pub moved : (next : IsolationMachine) × IsStep (command_in entry.made.event) (reads_handed entry.made.event) at (reply_after (shape_of script) parts entry.made) next × FollowsMachine (shape_of script) (after (shape_of script) parts entry.made) next
     moved = made_step (shape_of script) parts entry.made at (is_shape script valid) held.ok held.follows lawful memory
 
     low_session : 1 ≤ entry.session
@@ -389,10 +399,10 @@ module _ (script : Script) (valid : is_valid script ≡ true) where
           behind [] made a = a
           behind (x ∷ began) made a = inr (behind began made a)
 
-      comes : (printed : Entry) → line.printed ≡ Some printed → Takes script.tables lines at printed moved.0 × Counts script.tables lines printed.command printed.reply.said
-      comes printed e =
+      comes : (is_worker (who_at script seat) ≡ false → Reads script lines seat line.call) → (printed : Entry) → line.printed ≡ Some printed → Takes script.tables lines at printed moved.0 × Counts script.tables lines printed.command printed.reply.said
+      comes read printed e =
           let is = is_said (who_at script seat) line.call line.printed printed ends.printed e in (
-            takes script valid seat (after (shape_of script) parts entry.made) (front ++ occurrence_of (shape_of script) parts entry ∷ []) at moved.0 line.call lines printed ended is.0 is.1 is.2
+            takes script valid seat (after (shape_of script) parts entry.made) (front ++ occurrence_of (shape_of script) parts entry ∷ []) at moved.0 line.call lines printed ended is.0 is.1 is.2 (λ session. (read session).told)
                 (λ table asked. exports_by script valid seat (after (shape_of script) parts entry.made) (front ++ occurrence_of (shape_of script) parts entry ∷ []) at moved.0 line.call ended table asked
                 lines printed.reply.said is.0 was_frozen),
             subst (λ c. Counts script.tables lines c printed.reply.said) (sym is.2)
@@ -422,7 +432,7 @@ module _ (script : Script) (valid : is_valid script ≡ true) where
   abbrev On : List Moment → Type 0
   On ms = (log : List Logged) (parts : Parts) (front : List Occurrence) (at : IsolationMachine) (lines : List Entry)
       → Holds script parts front at lines → IsLawfulFrom (shape_of script) parts (map (λ entry. entry.made) log) → are_named log ≡ true
-      → AreMoments script front ms → events_at ms ≡ occurrences_from (shape_of script) parts log
+      → AreMoments script front ms → ReadsAt script lines ms → events_at ms ≡ occurrences_from (shape_of script) parts log
       → Runs script.tables lines at (replies_at ms)
 
   -- With one moment in front of others, the replies still come about in their order.
@@ -430,14 +440,16 @@ module _ (script : Script) (valid : is_valid script ≡ true) where
       → (log : List Logged) (parts : Parts) (front : List Occurrence) (at : IsolationMachine) (lines : List Entry)
       → Holds script parts front at lines → IsLawfulFrom (shape_of script) parts (map (λ entry. entry.made) log) → are_named log ≡ true
       → IfSome event (λ o. o.session ≡ seat) → Stands script front seat event line → AreMoments script (with_event front event) ms
+      → IfSome line (λ line. is_worker (who_at script seat) ≡ false → Reads script lines seat line.call)
+      → ReadsAt script (with_reply lines (option_and_then (λ (line : Lined). line.printed) line)) ms
       → cons_option event (events_at ms) ≡ occurrences_from (shape_of script) parts log
       → Runs script.tables lines at (cons_option (option_and_then (λ (line : Lined). line.printed) line) (replies_at ms))
-  one seat low high None None ms on log parts front at lines held lawful are its stands rest events = absurd stands
-  one seat low high None (Some line) ms on log parts front at lines held lawful are its stands rest events =
-      alone parts front at lines seat low line held stands ms
-      (on log parts front at (with_reply lines line.printed) (alone_held parts front at lines seat low line held stands) lawful are rest events)
-  one seat low high (Some o) line ms on [] parts front at lines held lawful are its stands rest events = absurd (no_event o (events_at ms) events)
-  one seat low high (Some o) None ms on (entry ∷ log) parts front at lines held lawful are its stands rest events =
+  one seat low high None None ms on log parts front at lines held lawful are its stands rest read reads events = absurd stands
+  one seat low high None (Some line) ms on log parts front at lines held lawful are its stands rest read reads events =
+      alone parts front at lines seat low line held stands read ms
+      (on log parts front at (with_reply lines line.printed) (alone_held parts front at lines seat low line held stands) lawful are rest reads events)
+  one seat low high (Some o) line ms on [] parts front at lines held lawful are its stands rest read reads events = absurd (no_event o (events_at ms) events)
+  one seat low high (Some o) None ms on (entry ∷ log) parts front at lines held lawful are its stands rest read reads events =
       let same : o ≡ occurrence_of (shape_of script) parts entry = first_is o (occurrence_of (shape_of script) parts entry) (events_at ms) (occurrences_from (shape_of script) (after (shape_of script) parts entry.made) log) events in
       let seat_is : entry.session ≡ seat = ap (λ (o : Occurrence). o.session) (sym same) ∙ its in
       let goes = subst (GoesOn script front seat) same stands in
@@ -445,9 +457,9 @@ module _ (script : Script) (valid : is_valid script ≡ true) where
       on log (after (shape_of script) parts entry.made) (front ++ occurrence_of (shape_of script) parts entry ∷ []) at lines
       (onward parts front at lines seat low high entry seat_is held lawful.0 lawful.1 here goes)
       lawful.2 (and_second (is_of entry.session entry.made.event) (are_named log) are)
-      (subst (λ o. AreMoments script (front ++ o ∷ []) ms) same rest)
+      (subst (λ o. AreMoments script (front ++ o ∷ []) ms) same rest) reads
       (rest_is o (occurrence_of (shape_of script) parts entry) (events_at ms) (occurrences_from (shape_of script) (after (shape_of script) parts entry.made) log) events)
-  one seat low high (Some o) (Some line) ms on (entry ∷ log) parts front at lines held lawful are its stands rest events =
+  one seat low high (Some o) (Some line) ms on (entry ∷ log) parts front at lines held lawful are its stands rest read reads events =
       let same : o ≡ occurrence_of (shape_of script) parts entry = first_is o (occurrence_of (shape_of script) parts entry) (events_at ms) (occurrences_from (shape_of script) (after (shape_of script) parts entry.made) log) events in
       let seat_is : entry.session ≡ seat = ap (λ (o : Occurrence). o.session) (sym same) ∙ its in
       let ends = subst (λ o. Ends script front seat (Some o) line) same stands in
@@ -455,18 +467,18 @@ module _ (script : Script) (valid : is_valid script ≡ true) where
       let next = (moved parts front at lines seat low high entry seat_is held lawful.0 lawful.1 here).0 in
       lines_on at next lines line.printed ms
       (stays parts front at lines seat low high entry seat_is held lawful.0 lawful.1 here line ends)
-      (comes parts front at lines seat low high entry seat_is held lawful.0 lawful.1 here line ends)
+      (comes parts front at lines seat low high entry seat_is held lawful.0 lawful.1 here line ends read)
       (on log (after (shape_of script) parts entry.made) (front ++ occurrence_of (shape_of script) parts entry ∷ []) next (with_reply lines line.printed)
       (after_held parts front at lines seat low high entry seat_is held lawful.0 lawful.1 here line ends)
       lawful.2 (and_second (is_of entry.session entry.made.event) (are_named log) are)
-      (subst (λ o. AreMoments script (front ++ o ∷ []) ms) same rest)
+      (subst (λ o. AreMoments script (front ++ o ∷ []) ms) same rest) reads
       (rest_is o (occurrence_of (shape_of script) parts entry) (events_at ms) (occurrences_from (shape_of script) (after (shape_of script) parts entry.made) log) events))
 
   -- where it holds, the lines of all moments to come come about one behind the other
   pub all_run : (ms : List Moment) → On ms
-  all_run [] log parts front at lines held lawful are moments events = tt
-  all_run (m ∷ ms) log parts front at lines held lawful are moments events =
-      one m.session moments.0.low moments.0.high m.event m.line ms (all_run ms) log parts front at lines held lawful are moments.0.event_is moments.0.stands moments.1 events
+  all_run [] log parts front at lines held lawful are moments reads events = tt
+  all_run (m ∷ ms) log parts front at lines held lawful are moments reads events =
+      one m.session moments.0.low moments.0.high m.event m.line ms (all_run ms) log parts front at lines held lawful are moments.0.event_is moments.0.stands moments.1 reads.0 reads.1 events
 
 -- The moments of a run are a timeline of its printed replies.
 pub runs_give_timelines : RunsGiveTimelines
@@ -476,5 +488,5 @@ runs_give_timelines script log text valid ran =
       threads = moments.threads;
       order = moments.order;
       runs = all_run script valid (moments_of script ran.rounds) (as_log ran.trace) (opening (shape_of script)) [] machine.opening []
-          (holds_first script (is_shape script valid)) (run_lawful script log text ran) (run_named script log text ran) moments.calls moments.events;
+          (holds_first script (is_shape script valid)) (run_lawful script log text ran) (run_named script log text ran) moments.calls (runs_read script log text valid ran) moments.events;
     }

@@ -6,8 +6,8 @@ use Rattle.std.specs.List.{find}
 use Rattle.std.specs.Ordering.{is_eq, nat_cmp, ordering_then}
 use Rattle.std.proofs.lemmas.Bool.Decides.{nat_tests}
 use Rattle.cell_model.specs.declared.cell.Cell.{Cell}
-use Rattle.event_spec.specs.Follows.{InOrder}
-use Rattle.core_laws.proofs.Following.Overlays.{at-laid_over, over}
+use Rattle.isolation_spec.specs.Order.{InOrder}
+use Rattle.isolation_laws.proofs.Overlays.{at-laid_over, over}
 use Rattle.isolation_spec.specs.Contents.{State, WriteSet, at_place, contents_of, laid_over, place_at}
 use Rattle.isolation_spec.specs.declared.place.Place.{Place}
 use Rattle.isolation_spec.specs.Contents.{least_key}

@@ -3,6 +3,7 @@ use Rattle.std.proofs.Common.{◌≡◌, ℕ, List, [], Option, Ok, refl, sym, a
 use Rattle.std.specs.Prelude.{Result, unwrap_or}
 use Rattle.std.specs.Result.{result_ok}
 use Rattle.event_spec.specs.Replay.{opening}
+use Rattle.run_laws.proofs.Moments.Reads.{runs_read}
 use Rattle.run_laws.proofs.Explained.Explaining.{told_stands}
 use Rattle.run_laws.proofs.Explained.Holding.{holds_first}
 use Rattle.run_laws.proofs.Explained.Scripts.{is_shape}
@@ -38,7 +39,7 @@ exports_are_said script log text bytes valid ran fit sent =
     let t : Timeline script.tables (printed_of script (told_in ran.rounds)) (replies_at (moments_of script ran.rounds)) = runs_give_timelines script log text valid ran in
     let all = all_say script valid (printed_of script (told_in ran.rounds)) (replies_at (moments_of script ran.rounds)) t bytes (moments_of script ran.rounds)
     (as_log ran.trace) (opening (shape_of script)) [] machine.opening []
-    (holds_first script (is_shape script valid)) (run_lawful script log text ran) (run_named script log text ran) moments.calls moments.events
+    (holds_first script (is_shape script valid)) (run_lawful script log text ran) (run_named script log text ran) moments.calls (runs_read script log text valid ran) moments.events
     (lines_of_calls (λ call. SendsBy script.tables call bytes) script ran.rounds sent.by_calls)
     (record {
       runs = t.runs;

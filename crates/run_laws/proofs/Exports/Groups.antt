@@ -25,7 +25,7 @@ use Rattle.isolation_spec.specs.Contents.{least_key}
 use Rattle.run_spec.specs.Told.{is_some_row}
 use Rattle.store_laws.proofs.Scans.{reads_are_the_scan, within}
 use Rattle.stream_laws.specs.Laws.{IsBatch}
-use Rattle.core_laws.proofs.Following.Machines.{state-order}
+use Rattle.isolation_laws.proofs.States.{state-order}
 use Rattle.run_laws.proofs.Exports.Clean.{contents_stay}
 use Rattle.run_laws.proofs.Exports.Permuted.{ordered_rows_are_the_rows}
 

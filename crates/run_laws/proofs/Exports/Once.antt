@@ -1,14 +1,16 @@
 -- A reply leaves one machine behind it.
-use Rattle.std.proofs.Common.{◌≡◌, ◌⊎◌, inl, inr, ℕ, true, false, List, [], Option, None, Some, refl, sym, ap, ◌∙◌}
+use Rattle.std.proofs.Common.{◌≡◌, ◌⊎◌, inl, inr, ℕ, true, false, List, [], Option, None, Some, refl, sym, ap, ◌∙◌, ℤ}
 use Rattle.std.specs.Option.{option_map_or}
 use Rattle.cell_model.specs.declared.cell.Cell.{Cell}
 use Rattle.cell_model.specs.declared.table.TableDecl.{TableDecl}
 use Rattle.isolation_spec.specs.declared.command.Act.TheVariants as act
 use Rattle.isolation_spec.specs.declared.command.Answer.{Answer}
 use Rattle.isolation_spec.specs.declared.place.Place.{Place}
+use Rattle.isolation_spec.specs.Reads.{ReadSet}
 use Rattle.isolation_spec.specs.Machine.{IsolationMachine, Transaction, step_of, transaction_of, with_own, without}
 use Rattle.isolation_spec.specs.Store.{Allows, Answered, Freezing, Full, Memory, Outcome}
-use Rattle.outcome_spec.specs.Entries.{Entry}
+use Rattle.outcome_spec.specs.Entries.{Entry, thread}
+use Rattle.outcome_spec.specs.Stale.{reads_after}
 use Rattle.outcome_spec.specs.Runs.{write_of}
 use Rattle.run_laws.specs.Calls.Coming.{is_single}
 use Rattle.timeline_laws.proofs.Machine.{begun, committed}
@@ -81,29 +83,55 @@ change_once who asked told machine a b one other = change_behind who asked told 
 -- ---- replies that leave the machine as it is
 
 -- A scan that the machine allows leaves it as it was.
-scan_stays : (machine : IsolationMachine) (session table : ℕ) (outcome : Outcome) (after : IsolationMachine)
-    → Allows machine (record { session = session; act = act.Scan table }) outcome after → after ≡ machine
-scan_stays machine session table (Answered answer) after allows = go (transaction_of session machine) allows
+scan_stays : (machine : IsolationMachine) (reads : Option ReadSet) (session table : ℕ) (outcome : Outcome) (after : IsolationMachine)
+    → Allows machine reads (record { session = session; act = act.Scan table }) outcome after → after ≡ machine
+scan_stays machine reads session table (Answered answer) after allows = go (transaction_of session machine) allows
   where
     go : (found : Option Transaction) → step_of machine (record { session = session; act = act.Scan table }) found ≡ (answer, after) → after ≡ machine
     go None e = sym (ap (λ (p : Answer × IsolationMachine). p.1) e)
     go (Some t) e = sym (ap (λ (p : Answer × IsolationMachine). p.1) e)
-scan_stays machine session table Freezing after allows = allows.2
-scan_stays machine session table Full after allows = allows.2
-scan_stays machine session table Memory after allows = allows.2
+scan_stays machine reads session table Freezing after allows = allows.2
+scan_stays machine reads session table Full after allows = allows.2
+scan_stays machine reads session table Memory after allows = allows.2
+
+-- A range that the machine allows leaves it as it was.
+range_stays : (machine : IsolationMachine) (reads : Option ReadSet) (session table : ℕ) (low high : ℤ) (outcome : Outcome) (after : IsolationMachine)
+    → Allows machine reads (record { session = session; act = act.Range table low high }) outcome after → after ≡ machine
+range_stays machine reads session table low high (Answered answer) after allows = go (transaction_of session machine) allows
+  where
+    go : (found : Option Transaction) → step_of machine (record { session = session; act = act.Range table low high }) found ≡ (answer, after) → after ≡ machine
+    go None e = sym (ap (λ (p : Answer × IsolationMachine). p.1) e)
+    go (Some t) e = sym (ap (λ (p : Answer × IsolationMachine). p.1) e)
+range_stays machine reads session table low high Freezing after allows = allows.2
+range_stays machine reads session table low high Full after allows = allows.2
+range_stays machine reads session table low high Memory after allows = allows.2
+
+-- A total that the machine allows leaves it as it was.
+total_stays : (machine : IsolationMachine) (reads : Option ReadSet) (session table column : ℕ) (low high : ℤ) (outcome : Outcome) (after : IsolationMachine)
+    → Allows machine reads (record { session = session; act = act.Total table column low high }) outcome after → after ≡ machine
+total_stays machine reads session table column low high (Answered answer) after allows = go (transaction_of session machine) allows
+  where
+    go : (found : Option Transaction) → step_of machine (record { session = session; act = act.Total table column low high }) found ≡ (answer, after) → after ≡ machine
+    go None e = sym (ap (λ (p : Answer × IsolationMachine). p.1) e)
+    go (Some t) e = sym (ap (λ (p : Answer × IsolationMachine). p.1) e)
+total_stays machine reads session table column low high Freezing after allows = allows.2
+total_stays machine reads session table column low high Full after allows = allows.2
+total_stays machine reads session table column low high Memory after allows = allows.2
 
 -- a command that asks nothing of the machine leaves it
 pub others_stay : (tables : List TableDecl) (front : List Entry) (machine : IsolationMachine) (entry : Entry) (after : IsolationMachine) (who : Who) (asked : Command)
     → is_single asked ≡ false → TakesAs tables front machine entry after (request_of who asked) → after ≡ machine
 others_stay tables front machine entry after (Worker worker) asked other takes = takes.1
-others_stay tables front machine entry after (Session session) (command.Scan table) other takes = scan_stays machine session table takes.outcome after takes.allows
+others_stay tables front machine entry after (Session session) (command.Scan table) other takes = scan_stays machine (reads_after (thread entry.reply.who front)) session table takes.outcome after takes.allows
+others_stay tables front machine entry after (Session session) (command.Range table low high) other takes = range_stays machine (reads_after (thread entry.reply.who front)) session table low high takes.outcome after takes.allows
+others_stay tables front machine entry after (Session session) (command.Total table column low high) other takes = total_stays machine (reads_after (thread entry.reply.who front)) session table column low high takes.outcome after takes.allows
 others_stay tables front machine entry after (Session session) (command.Export table) other takes = takes.1
 others_stay tables front machine entry after (Session session) command.Observe other takes = takes.1
 others_stay tables front machine entry after (Session session) command.Prune other takes = takes.1
 others_stay tables front machine entry after (Session session) (command.Compact table) other takes = takes.1
 others_stay tables front machine entry after (Session session) (command.Seal table block) other takes = takes.1
 others_stay tables front machine entry after (Session session) (command.Gather table block) other takes = takes.1
-others_stay tables front machine entry after (Session session) command.Begin other takes = absurd (true_false other)
+others_stay tables front machine entry after (Session session) (command.Begin checked) other takes = absurd (true_false other)
 others_stay tables front machine entry after (Session session) (command.Get table key) other takes = absurd (true_false other)
 others_stay tables front machine entry after (Session session) (command.Insert table row) other takes = absurd (true_false other)
 others_stay tables front machine entry after (Session session) (command.Update table row) other takes = absurd (true_false other)

@@ -286,13 +286,13 @@ module _ (script : Script) (valid : is_valid script ≡ true) (seat : ℕ) (part
         → IsWhole (shape_of script) false seat (own_after ended.began) call ⊎ IsPart (shape_of script) seat (own_after ended.began) call → Sends line
     says_made line tells (inl w) =
         let events : events_in call.made ≡ at_blocks (shape_of script) table (event.Read own table) =
-        w.events ∙ ap (λ c. events_of (shape_of script) (own_after ended.began) seat c call.made) is ∙ ap (λ o. events_of (shape_of script) o seat (command.Export table) call.made) mine in
+        w.events ∙ ap (λ c. events_of (shape_of script) (own_after ended.began) call.reads seat c call.made) is ∙ ap (λ o. events_of (shape_of script) o call.reads seat (command.Export table) call.made) mine in
         let told : call.told ≡ Some (summary_of own (replies_in call.made)) =
         w.line ∙ ap (λ c. line_of (own_after ended.began) c (replies_in call.made)) is ∙ ap (λ o. line_of o (command.Export table) (replies_in call.made)) mine in
         subst Sends (same_Some (summary_of own (replies_in call.made)) line (sym told ∙ tells)) (whole w events)
     says_made line tells (inr p) =
-        let events : events_of (shape_of script) (own_after ended.began) seat call.command call.made ≡ at_blocks (shape_of script) table (event.Read own table) =
-        ap (λ c. events_of (shape_of script) (own_after ended.began) seat c call.made) is ∙ ap (λ o. events_of (shape_of script) o seat (command.Export table) call.made) mine in
+        let events : events_of (shape_of script) (own_after ended.began) call.reads seat call.command call.made ≡ at_blocks (shape_of script) table (event.Read own table) =
+        ap (λ c. events_of (shape_of script) (own_after ended.began) call.reads seat c call.made) is ∙ ap (λ o. events_of (shape_of script) o call.reads seat (command.Export table) call.made) mine in
         subst Sends (same_Some said.Memory line (sym p.line ∙ tells)) (part p.missed (sym events ∙ p.events) p.cut)
 
   -- what it sent is what a line says, of this transaction

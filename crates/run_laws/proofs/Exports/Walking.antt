@@ -24,6 +24,7 @@ use Rattle.workload_spec.specs.Valid.{is_valid}
 use Rattle.run_spec.specs.Calls.{Call}
 use Rattle.run_spec.specs.Occurrences.{Logged, Occurrence, occurrence_of, occurrences_from}
 use Rattle.run_spec.specs.Ran.{shape_of}
+use Rattle.run_laws.proofs.Moments.Reads.{Reads, ReadsAt}
 use Rattle.run_laws.proofs.Calls.Along.{and_first, and_second, named}
 use Rattle.run_laws.specs.Calls.Along.{are_named}
 use Rattle.run_laws.specs.Calls.Asking.{is_of}
@@ -59,11 +60,13 @@ seal_other : (asked : Command) → is_seal_or_gather asked ≡ true → is_singl
 seal_other (command.Seal table block) e = refl
 seal_other (command.Gather table block) e = refl
 seal_other (command.Scan table) e = refl
+seal_other (command.Range table low high) e = refl
+seal_other (command.Total table column low high) e = refl
 seal_other (command.Export table) e = refl
 seal_other command.Observe e = refl
 seal_other command.Prune e = refl
 seal_other (command.Compact table) e = refl
-seal_other command.Begin e = absurd (true_false (sym e))
+seal_other (command.Begin checked) e = absurd (true_false (sym e))
 seal_other (command.Get table key) e = absurd (true_false (sym e))
 seal_other (command.Insert table row) e = absurd (true_false (sym e))
 seal_other (command.Update table row) e = absurd (true_false (sym e))
@@ -87,7 +90,8 @@ module _ (script : Script) (valid : is_valid script ≡ true) (printed timeline 
   -- ---- a line of a call that ended
 
   module _ (seat : ℕ) (parts : Parts) (front : List Occurrence) (at next : IsolationMachine) (call : Call) (is_ended : Ended script seat parts front at next call)
-      (lines : List Entry) (loud : Loud (is_worker (who_at script seat)) call.command call.told) where
+      (lines : List Entry) (loud : Loud (is_worker (who_at script seat)) call.command call.told)
+      (read : is_worker (who_at script seat) ≡ false → Reads script lines seat call) where
     -- it leaves the machine that the timeline has there
     same_next : (entry : Entry) (entries : List Entry) → IsPrinted (who_at script seat) call (Some entry) → (rest : ToCome lines at (entry ∷ entries)) → next ≡ rest.runs.0
     same_next entry entries is rest = go (is_single call.command) refl
@@ -95,7 +99,7 @@ module _ (script : Script) (valid : is_valid script ≡ true) (printed timeline 
         go : (b : Bool) → is_single call.command ≡ b → next ≡ rest.runs.0
         go true e = change_once entry.reply.who entry.command entry.reply.said at next rest.runs.0
             (change-of script.tables lines at next entry rest.shown.sane
-            (takes script valid seat parts front at next call lines entry is_ended is.0 is.1 is.2
+            (takes script valid seat parts front at next call lines entry is_ended is.0 is.1 is.2 (λ session. (read session).told)
             (λ table asked. absurd (true_false (sym e ∙ export_other call.command table asked)))))
             (change-of script.tables lines at rest.runs.0 entry rest.shown.sane rest.runs.1)
         go false e =
@@ -148,7 +152,7 @@ module _ (script : Script) (valid : is_valid script ≡ true) (printed timeline 
   abbrev pub On : List Moment → Type 0
   On ms = (log : List Logged) (parts : Parts) (front : List Occurrence) (at : IsolationMachine) (lines : List Entry)
       → Holds script parts front at lines → IsLawfulFrom (shape_of script) parts (map (λ entry. entry.made) log) → are_named log ≡ true
-      → AreMoments script front ms → events_at ms ≡ occurrences_from (shape_of script) parts log
+      → AreMoments script front ms → ReadsAt script lines ms → events_at ms ≡ occurrences_from (shape_of script) parts log
       → EachLine (λ line. SendsBy script.tables line.call bytes) ms → ToCome lines at (replies_at ms)
       → Each Says (replies_at ms)
 
@@ -161,10 +165,10 @@ module _ (script : Script) (valid : is_valid script ≡ true) (printed timeline 
     alone_loud : Loud (is_worker (who_at script seat)) line.call.command line.call.told
     alone_loud = plain_or_moved (is_worker (who_at script seat)) line.call.command line.call.told plain.0 plain.1 plain.2
 
-    alone_done : (ms : List Moment) → SendsBy script.tables line.call bytes → ToCome lines at (cons_option line.printed (replies_at ms))
+    alone_done : (is_worker (who_at script seat) ≡ false → Reads script lines seat line.call) → (ms : List Moment) → SendsBy script.tables line.call bytes → ToCome lines at (cons_option line.printed (replies_at ms))
         → (ToCome (with_reply lines line.printed) at (replies_at ms) → Each Says (replies_at ms))
         → Each Says (cons_option line.printed (replies_at ms))
-    alone_done ms sent rest behind = line_done seat parts front at at line.call (alone_ended script valid parts front at lines seat low line held ends) lines alone_loud ms line.printed
+    alone_done read ms sent rest behind = line_done seat parts front at at line.call (alone_ended script valid parts front at lines seat low line held ends) lines alone_loud read ms line.printed
         ends.printed sent rest behind
 
   -- What holds of the moments that follow holds with one moment more in front.
@@ -172,16 +176,18 @@ module _ (script : Script) (valid : is_valid script ≡ true) (printed timeline 
       → (log : List Logged) (parts : Parts) (front : List Occurrence) (at : IsolationMachine) (lines : List Entry)
       → Holds script parts front at lines → IsLawfulFrom (shape_of script) parts (map (λ entry. entry.made) log) → are_named log ≡ true
       → IfSome event (λ o. o.session ≡ seat) → Stands script front seat event line → AreMoments script (with_event front event) ms
+      → IfSome line (λ line. is_worker (who_at script seat) ≡ false → Reads script lines seat line.call)
+      → ReadsAt script (with_reply lines (option_and_then (λ (line : Lined). line.printed) line)) ms
       → cons_option event (events_at ms) ≡ occurrences_from (shape_of script) parts log
       → IfSome line (λ line. SendsBy script.tables line.call bytes) → EachLine (λ line. SendsBy script.tables line.call bytes) ms
       → ToCome lines at (cons_option (option_and_then (λ (line : Lined). line.printed) line) (replies_at ms))
       → Each Says (cons_option (option_and_then (λ (line : Lined). line.printed) line) (replies_at ms))
-  one seat low high None None ms on log parts front at lines held lawful are its stands rest events sent others to_come = absurd stands
-  one seat low high None (Some line) ms on log parts front at lines held lawful are its stands rest events sent others to_come =
-      alone_done parts front at lines seat low line held stands ms sent to_come
-      (on log parts front at (with_reply lines line.printed) (alone_held script valid parts front at lines seat low line held stands) lawful are rest events others)
-  one seat low high (Some o) line ms on [] parts front at lines held lawful are its stands rest events sent others to_come = absurd (no_event script valid o (events_at ms) events)
-  one seat low high (Some o) None ms on (entry ∷ log) parts front at lines held lawful are its stands rest events sent others to_come =
+  one seat low high None None ms on log parts front at lines held lawful are its stands rest read reads events sent others to_come = absurd stands
+  one seat low high None (Some line) ms on log parts front at lines held lawful are its stands rest read reads events sent others to_come =
+      alone_done parts front at lines seat low line held stands read ms sent to_come
+      (on log parts front at (with_reply lines line.printed) (alone_held script valid parts front at lines seat low line held stands) lawful are rest reads events others)
+  one seat low high (Some o) line ms on [] parts front at lines held lawful are its stands rest read reads events sent others to_come = absurd (no_event script valid o (events_at ms) events)
+  one seat low high (Some o) None ms on (entry ∷ log) parts front at lines held lawful are its stands rest read reads events sent others to_come =
       let same : o ≡ occurrence_of (shape_of script) parts entry = first_is script valid o (occurrence_of (shape_of script) parts entry) (events_at ms) (occurrences_from (shape_of script) (after (shape_of script) parts entry.made) log) events in
       let seat_is : entry.session ≡ seat = ap (λ (o : Occurrence). o.session) (sym same) ∙ its in
       let goes = subst (GoesOn script front seat) same stands in
@@ -189,10 +195,10 @@ module _ (script : Script) (valid : is_valid script ≡ true) (printed timeline 
       on log (after (shape_of script) parts entry.made) (front ++ occurrence_of (shape_of script) parts entry ∷ []) at lines
       (onward script valid parts front at lines seat low high entry seat_is held lawful.0 lawful.1 here goes)
       lawful.2 (and_second (is_of entry.session entry.made.event) (are_named log) are)
-      (subst (λ o. AreMoments script (front ++ o ∷ []) ms) same rest)
+      (subst (λ o. AreMoments script (front ++ o ∷ []) ms) same rest) reads
       (rest_is script valid o (occurrence_of (shape_of script) parts entry) (events_at ms) (occurrences_from (shape_of script) (after (shape_of script) parts entry.made) log) events)
       others to_come
-  one seat low high (Some o) (Some line) ms on (entry ∷ log) parts front at lines held lawful are its stands rest events sent others to_come =
+  one seat low high (Some o) (Some line) ms on (entry ∷ log) parts front at lines held lawful are its stands rest read reads events sent others to_come =
       let same : o ≡ occurrence_of (shape_of script) parts entry = first_is script valid o (occurrence_of (shape_of script) parts entry) (events_at ms) (occurrences_from (shape_of script) (after (shape_of script) parts entry.made) log) events in
       let seat_is : entry.session ≡ seat = ap (λ (o : Occurrence). o.session) (sym same) ∙ its in
       let ends = subst (λ o. Ends script front seat (Some o) line) same stands in
@@ -201,11 +207,11 @@ module _ (script : Script) (valid : is_valid script ≡ true) (printed timeline 
       let tells = tells_at script valid parts front at lines seat low high entry seat_is held lawful.0 lawful.1 here line ends in
       let is_ended = ended script valid parts front at lines seat low high entry seat_is held lawful.0 lawful.1 here line ends in
       let loud = event_loud (shape_of script) parts (is_worker (who_at script seat)) line.call.made line.call.command line.call.told entry.made.event entry.made.refused tells in
-      line_done seat (after (shape_of script) parts entry.made) (front ++ occurrence_of (shape_of script) parts entry ∷ []) at next.0 line.call is_ended lines loud ms line.printed ends.printed sent to_come
+      line_done seat (after (shape_of script) parts entry.made) (front ++ occurrence_of (shape_of script) parts entry ∷ []) at next.0 line.call is_ended lines loud read ms line.printed ends.printed sent to_come
       (on log (after (shape_of script) parts entry.made) (front ++ occurrence_of (shape_of script) parts entry ∷ []) next.0 (with_reply lines line.printed)
       (after_held script valid parts front at lines seat low high entry seat_is held lawful.0 lawful.1 here line ends)
       lawful.2 (and_second (is_of entry.session entry.made.event) (are_named log) are)
-      (subst (λ o. AreMoments script (front ++ o ∷ []) ms) same rest)
+      (subst (λ o. AreMoments script (front ++ o ∷ []) ms) same rest) reads
       (rest_is script valid o (occurrence_of (shape_of script) parts entry) (events_at ms) (occurrences_from (shape_of script) (after (shape_of script) parts entry.made) log) events)
       others)
 
@@ -213,6 +219,6 @@ module _ (script : Script) (valid : is_valid script ≡ true) (printed timeline 
 
   -- where it holds, each line of an export to come says what was sent
   pub all_say : (ms : List Moment) → On ms
-  all_say [] log parts front at lines held lawful are moments events sent rest = tt
-  all_say (m ∷ ms) log parts front at lines held lawful are moments events sent rest =
-      one m.session moments.0.low moments.0.high m.event m.line ms (all_say ms) log parts front at lines held lawful are moments.0.event_is moments.0.stands moments.1 events sent.0 sent.1 rest
+  all_say [] log parts front at lines held lawful are moments reads events sent rest = tt
+  all_say (m ∷ ms) log parts front at lines held lawful are moments reads events sent rest =
+      one m.session moments.0.low moments.0.high m.event m.line ms (all_say ms) log parts front at lines held lawful are moments.0.event_is moments.0.stands moments.1 reads.0 reads.1 events sent.0 sent.1 rest

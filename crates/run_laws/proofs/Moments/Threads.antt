@@ -56,16 +56,16 @@ line_printed : (o : Option Lined) (xs : List Lined)
 line_printed None xs = refl
 line_printed (Some line) xs = refl
 
--- Numbers that pass the test for equality are the same.
-number_is : (a b : ℕ) → (a == b) ≡ true → a ≡ b
+-- numbers that pass the test for equality are the same
+pub number_is : (a b : ℕ) → (a == b) ≡ true → a ≡ b
 number_is a b e = grind (arith, nat_tests, e)
 
 -- Numbers that fail the test for equality are not the same.
 number_not : (a b : ℕ) → (a == b) ≡ false → a ≡ b → ⊥
 number_not a b e s = absurd (let never : ⊥ = grind (arith, nat_tests, e, s) in never)
 
--- At different seats stand different sessions or workers.
-not_same : (script : Script) (a b : ℕ) → (a == b) ≡ false → is_same (who_at script a) (who_at script b) ≡ false
+-- at different seats stand different sessions or workers
+pub not_same : (script : Script) (a b : ℕ) → (a == b) ≡ false → is_same (who_at script a) (who_at script b) ≡ false
 not_same script a b e = go (is_same (who_at script a) (who_at script b)) refl
   where
     go : (t : Bool) → is_same (who_at script a) (who_at script b) ≡ t → is_same (who_at script a) (who_at script b) ≡ false

@@ -238,7 +238,7 @@ module _ (script : Script) (asked : List (List Line)) where
 
 -- The rounds that ran are a run of a script of just these rounds.
 pub rounds_ran : RoundsRan
-rounds_ran script asked rounds finished ran = record {
+rounds_ran script asked rounds finished ran kept = record {
   ran = record {
     lawful = ran.lawful;
     trace = ran.trace;
@@ -248,6 +248,7 @@ rounds_ran script asked rounds finished ran = record {
     asked = ran.agendas;
     parted = ran.parted;
     done = rounds_done script asked [] rounds ran.done;
+    kept = kept;
     printed = sym (texts_are_lines script asked rounds ran.agendas);
   };
   rounds_are = refl;
@@ -303,8 +304,8 @@ counts_fit (round ∷ rounds) all = fit_append (flat_map share_told round.shares
 
 -- The text of the rounds that ran is explained, where these are a workload.
 pub rounds_are_explained : RoundsAreExplained
-rounds_are_explained script asked rounds finished valid ran counted =
-    let run = rounds_ran script asked rounds finished ran in
+rounds_are_explained script asked rounds finished valid ran kept counted =
+    let run = rounds_ran script asked rounds finished ran kept in
     runs_are_explained (with_rounds asked script) finished (rounds_text script.tables 1 rounds) valid
     run.ran (subst (λ rounds. PruningsFit (told_in rounds)) (sym run.rounds_are) (counts_fit rounds counted))
 

@@ -11,6 +11,7 @@ use Rattle.event_spec.specs.Effects.{CoreEvent}
 use Rattle.event_spec.specs.Parts.{Shape}
 use Rattle.event_spec.specs.Plans.{plan_of}
 use Rattle.isolation_spec.specs.Contents.{key_of}
+use Rattle.isolation_spec.specs.Reads.{ReadSet}
 use Rattle.workload_spec.specs.declared.command.Command.{Command}
 use Rattle.workload_spec.specs.declared.command.Command.TheVariants as command
 use Rattle.run_spec.specs.Asked.{at_all_blocks, at_blocks, by_own, events_of, image_of, imaged_block, looks_in, moves, parts_before, prunes, thaws}
@@ -66,9 +67,11 @@ passes_at p (x ∷ es) e rest h = passes_at p es e rest (and_second (p x) (list_
 
 -- the quiet events of a command, which stand first
 abbrev pub quiet_of : Shape → Option OwnTransaction → Command → List Occurrence → List CoreEvent
-quiet_of shape own command.Begin made = []
+quiet_of shape own (command.Begin checked) made = []
 quiet_of shape own (command.Get table key) made = by_own own (λ t. event.Get (own_key table key t) table key ∷ [])
 quiet_of shape own (command.Scan table) made = by_own own (λ t. at_blocks shape table (event.Read t table))
+quiet_of shape own (command.Range table low high) made = by_own own (λ t. at_blocks shape table (event.Read t table))
+quiet_of shape own (command.Total table column low high) made = by_own own (λ t. at_blocks shape table (event.Read t table))
 quiet_of shape own (command.Insert table row) made = []
 quiet_of shape own (command.Update table row) made = by_own own (λ t. thaws shape table (key_of row) made)
 quiet_of shape own (command.Delete table key) made = by_own own (λ t. thaws shape table key made)
@@ -87,24 +90,26 @@ move_of table [] = None
 move_of table (pair ∷ pairs) = Some (event.Move table (pair ∷ pairs))
 
 -- the event behind them
-abbrev pub loud_of : Shape → Option OwnTransaction → ℕ → Command → List Occurrence → Option CoreEvent
-loud_of shape own session command.Begin made = Some (event.Begin session)
-loud_of shape own session (command.Get table key) made = None
-loud_of shape own session (command.Scan table) made = None
-loud_of shape own session (command.Insert table row) made =
+abbrev pub loud_of : Shape → Option OwnTransaction → Option ReadSet → ℕ → Command → List Occurrence → Option CoreEvent
+loud_of shape own handed session (command.Begin checked) made = Some (event.Begin session)
+loud_of shape own handed session (command.Get table key) made = None
+loud_of shape own handed session (command.Scan table) made = None
+loud_of shape own handed session (command.Range table low high) made = None
+loud_of shape own handed session (command.Total table column low high) made = None
+loud_of shape own handed session (command.Insert table row) made =
     option_map (λ (t : OwnTransaction). event.Insert (own_key table (key_of row) t) table row) own
-loud_of shape own session (command.Update table row) made =
+loud_of shape own handed session (command.Update table row) made =
     option_map (λ (t : OwnTransaction). event.Update (own_key table (key_of row) t) table row) own
-loud_of shape own session (command.Delete table key) made =
+loud_of shape own handed session (command.Delete table key) made =
     option_map (λ (t : OwnTransaction). event.Delete (own_key table key t) table key) own
-loud_of shape own session command.Commit made = option_map event.Commit own
-loud_of shape own session command.Abort made = option_map event.Abort own
-loud_of shape own session command.Observe made = None
-loud_of shape own session command.Prune made = None
-loud_of shape own session (command.Compact table) made = move_of table (plan_of (looks_in made))
-loud_of shape own session (command.Seal table block) made = Some (event.Seal table block)
-loud_of shape own session (command.Gather table block) made = Some (event.Image table block (image_of shape table block made))
-loud_of shape own session (command.Export table) made = None
+loud_of shape own handed session command.Commit made = option_map (λ (t : OwnTransaction). event.Commit t handed) own
+loud_of shape own handed session command.Abort made = option_map event.Abort own
+loud_of shape own handed session command.Observe made = None
+loud_of shape own handed session command.Prune made = None
+loud_of shape own handed session (command.Compact table) made = move_of table (plan_of (looks_in made))
+loud_of shape own handed session (command.Seal table block) made = Some (event.Seal table block)
+loud_of shape own handed session (command.Gather table block) made = Some (event.Image table block (image_of shape table block made))
+loud_of shape own handed session (command.Export table) made = None
 
 -- Events of the open transaction, with none behind them, are these events.
 by_none : (own : Option OwnTransaction) (f : OwnTransaction → List CoreEvent) → by_own own f ≡ by_own own f ++ []
@@ -127,25 +132,27 @@ moves_are table [] = refl
 moves_are table (pair ∷ pairs) = refl
 
 -- the events of a command are those that are quiet, and the one behind them, if there is one
-pub split_events : (shape : Shape) (own : Option OwnTransaction) (session : ℕ) (asked : Command) (made : List Occurrence)
-    → events_of shape own session asked made ≡ quiet_of shape own asked made ++ option_to_list (loud_of shape own session asked made)
-split_events shape own session command.Begin made = refl
-split_events shape own session (command.Get table key) made = by_none own (λ t. event.Get (own_key table key t) table key ∷ [])
-split_events shape own session (command.Scan table) made = by_none own (λ t. at_blocks shape table (event.Read t table))
-split_events shape own session (command.Insert table row) made = by_one own (λ t. event.Insert (own_key table (key_of row) t) table row)
-split_events shape own session (command.Update table row) made =
+pub split_events : (shape : Shape) (own : Option OwnTransaction) (handed : Option ReadSet) (session : ℕ) (asked : Command) (made : List Occurrence)
+    → events_of shape own handed session asked made ≡ quiet_of shape own asked made ++ option_to_list (loud_of shape own handed session asked made)
+split_events shape own handed session (command.Begin checked) made = refl
+split_events shape own handed session (command.Get table key) made = by_none own (λ t. event.Get (own_key table key t) table key ∷ [])
+split_events shape own handed session (command.Scan table) made = by_none own (λ t. at_blocks shape table (event.Read t table))
+split_events shape own handed session (command.Range table low high) made = by_none own (λ t. at_blocks shape table (event.Read t table))
+split_events shape own handed session (command.Total table column low high) made = by_none own (λ t. at_blocks shape table (event.Read t table))
+split_events shape own handed session (command.Insert table row) made = by_one own (λ t. event.Insert (own_key table (key_of row) t) table row)
+split_events shape own handed session (command.Update table row) made =
     by_two own (thaws shape table (key_of row) made) (λ t. event.Update (own_key table (key_of row) t) table row)
-split_events shape own session (command.Delete table key) made =
+split_events shape own handed session (command.Delete table key) made =
     by_two own (thaws shape table key made) (λ t. event.Delete (own_key table key t) table key)
-split_events shape own session command.Commit made = by_one own event.Commit
-split_events shape own session command.Abort made = by_one own event.Abort
-split_events shape own session command.Observe made = sym (append-nil (at_all_blocks shape event.Observe))
-split_events shape own session command.Prune made = sym (append-nil (event.Oldest ∷ prunes shape made))
-split_events shape own session (command.Compact table) made =
+split_events shape own handed session command.Commit made = by_one own (λ t. event.Commit t handed)
+split_events shape own handed session command.Abort made = by_one own event.Abort
+split_events shape own handed session command.Observe made = sym (append-nil (at_all_blocks shape event.Observe))
+split_events shape own handed session command.Prune made = sym (append-nil (event.Oldest ∷ prunes shape made))
+split_events shape own handed session (command.Compact table) made =
     ap (λ es. at_blocks shape table (event.Look table) ++ es) (moves_are table (plan_of (looks_in made)))
-split_events shape own session (command.Seal table block) made = refl
-split_events shape own session (command.Gather table block) made = refl
-split_events shape own session (command.Export table) made = by_none own (λ t. at_blocks shape table (event.Read t table))
+split_events shape own handed session (command.Seal table block) made = refl
+split_events shape own handed session (command.Gather table block) made = refl
+split_events shape own handed session (command.Export table) made = by_none own (λ t. at_blocks shape table (event.Read t table))
 
 -- A get of the open transaction is quiet.
 quiet_get : (own : Option OwnTransaction) (table : ℕ) (key : Rattle.std.specs.Prelude.ℤ)
@@ -162,9 +169,11 @@ quiet_thaws (Some t) table block = all_thaws is_quiet table block (λ block. ref
 -- the events that stand first are quiet
 pub are_quiet : (shape : Shape) (own : Option OwnTransaction) (asked : Command) (made : List Occurrence)
     → list_all is_quiet (quiet_of shape own asked made) ≡ true
-are_quiet shape own command.Begin made = refl
+are_quiet shape own (command.Begin checked) made = refl
 are_quiet shape own (command.Get table key) made = quiet_get own table key
 are_quiet shape own (command.Scan table) made = reads is_quiet shape own table (λ t is block. refl)
+are_quiet shape own (command.Range table low high) made = reads is_quiet shape own table (λ t is block. refl)
+are_quiet shape own (command.Total table column low high) made = reads is_quiet shape own table (λ t is block. refl)
 are_quiet shape own (command.Insert table row) made = refl
 are_quiet shape own (command.Update table row) made =
     quiet_thaws own table (option_and_then (imaged_block shape table (key_of row)) (parts_before made))
@@ -181,20 +190,20 @@ are_quiet shape own (command.Gather table block) made = refl
 are_quiet shape own (command.Export table) made = reads is_quiet shape own table (λ t is block. refl)
 
 -- an event of a command is quiet, or the last
-pub placed : (shape : Shape) (own : Option OwnTransaction) (session : ℕ) (asked : Command) (made : List Occurrence)
+pub placed : (shape : Shape) (own : Option OwnTransaction) (handed : Option ReadSet) (session : ℕ) (asked : Command) (made : List Occurrence)
     (es : List CoreEvent) (e : CoreEvent) (rest : List CoreEvent)
-    → events_of shape own session asked made ≡ es ++ e ∷ rest
-    → (is_quiet e ≡ true) ⊎ ((rest ≡ []) × (loud_of shape own session asked made ≡ Some e))
-placed shape own session asked made es e rest h =
-    go (parted (quiet_of shape own asked made) (option_to_list (loud_of shape own session asked made)) es e rest
-    (sym (split_events shape own session asked made) ∙ h))
+    → events_of shape own handed session asked made ≡ es ++ e ∷ rest
+    → (is_quiet e ≡ true) ⊎ ((rest ≡ []) × (loud_of shape own handed session asked made ≡ Some e))
+placed shape own handed session asked made es e rest h =
+    go (parted (quiet_of shape own asked made) (option_to_list (loud_of shape own handed session asked made)) es e rest
+    (sym (split_events shape own handed session asked made) ∙ h))
   where
     loud : (o : Option CoreEvent) (fs : List CoreEvent) → option_to_list o ≡ fs ++ e ∷ rest → (rest ≡ []) × (o ≡ Some e)
     loud None fs f = absurd (none_behind fs e rest f)
     loud (Some x) fs f = let a = alone x fs e rest f in (a.1, ap Some a.0)
 
     go : ((more : List CoreEvent) × (quiet_of shape own asked made ≡ es ++ e ∷ more))
-        ⊎ ((fs : List CoreEvent) × (option_to_list (loud_of shape own session asked made) ≡ fs ++ e ∷ rest))
-        → (is_quiet e ≡ true) ⊎ ((rest ≡ []) × (loud_of shape own session asked made ≡ Some e))
+        ⊎ ((fs : List CoreEvent) × (option_to_list (loud_of shape own handed session asked made) ≡ fs ++ e ∷ rest))
+        → (is_quiet e ≡ true) ⊎ ((rest ≡ []) × (loud_of shape own handed session asked made ≡ Some e))
     go (inl q) = inl (passes_at is_quiet es e q.0 (ap (list_all is_quiet) (sym q.1) ∙ are_quiet shape own asked made))
-    go (inr l) = inr (loud (loud_of shape own session asked made) l.0 l.1)
+    go (inr l) = inr (loud (loud_of shape own handed session asked made) l.0 l.1)

@@ -10,9 +10,11 @@ use Rattle.event_spec.specs.declared.event.MovePair.{MovePair}
 use Rattle.event_spec.specs.declared.own.OwnTransaction.{OwnTransaction}
 use Rattle.event_spec.specs.declared.reply.Reply.TheVariants as reply
 use Rattle.event_spec.specs.Effects.{CoreEvent}
+use Rattle.event_spec.specs.Lawful.{reads_handed}
 use Rattle.event_spec.specs.Parts.{Parts, Shape, body_at}
 use Rattle.event_spec.specs.Plans.{plan_of}
 use Rattle.event_spec.specs.Replies.{CoreReply, reply_to}
+use Rattle.isolation_spec.specs.Reads.{ReadSet}
 use Rattle.isolation_spec.specs.Contents.{key_of}
 use Rattle.outcome_spec.specs.Forms.{is_silent}
 use Rattle.workload_spec.specs.declared.command.Command.{Command}
@@ -20,7 +22,7 @@ use Rattle.workload_spec.specs.declared.command.Command.TheVariants as command
 use Rattle.workload_spec.specs.declared.reply.Said.{Said}
 use Rattle.workload_spec.specs.declared.reply.Said.TheVariants as said
 use Rattle.run_spec.specs.Asked.{events_of, looks_in}
-use Rattle.run_spec.specs.Calls.{Call, IsCallBy, IsPart, IsWhole, is_cut_short, is_final, is_memory, is_refused, line_to, may_lack_memory}
+use Rattle.run_spec.specs.Calls.{Call, IsCall, IsCallBy, IsPart, IsWhole, is_cut_short, is_final, is_memory, is_refused, line_to, may_lack_memory}
 use Rattle.run_spec.specs.Occurrences.{Occurrence, events_in, replies_in}
 use Rattle.run_spec.specs.Opened.{least_written, own_after}
 use Rattle.run_spec.specs.Told.{dropped_told, last_told, line_of, moved_told, refusal_of, row_told, told_by}
@@ -59,10 +61,10 @@ calls_go_on_quietly shape worker session front call done made next rest is all =
     more : List CoreEvent
     more = next.event ∷ events_in rest
 
-    at : (tail : List CoreEvent) → events_of shape (own_after front) session call.command call.made ≡ events_in done ++ made.event ∷ next.event ∷ tail → is_quiet made.event ≡ true
-    at tail e = or (placed shape (own_after front) session call.command call.made (events_in done) made.event (next.event ∷ tail) e)
+    at : (tail : List CoreEvent) → events_of shape (own_after front) call.reads session call.command call.made ≡ events_in done ++ made.event ∷ next.event ∷ tail → is_quiet made.event ≡ true
+    at tail e = or (placed shape (own_after front) call.reads session call.command call.made (events_in done) made.event (next.event ∷ tail) e)
       where
-        or : (is_quiet made.event ≡ true) ⊎ ((next.event ∷ tail ≡ []) × (loud_of shape (own_after front) session call.command call.made ≡ Some made.event)) → is_quiet made.event ≡ true
+        or : (is_quiet made.event ≡ true) ⊎ ((next.event ∷ tail ≡ []) × (loud_of shape (own_after front) call.reads session call.command call.made ≡ Some made.event)) → is_quiet made.event ≡ true
         or (inl q) = q
         or (inr l) = absurd (none_some next.event tail (sym l.0))
 
@@ -72,6 +74,68 @@ calls_go_on_quietly shape worker session front call done made next rest is all =
     go None (inr p) = at (events_in rest ++ p.missed)
         (p.events ∙ ap (λ es. es ++ p.missed) (events_at call done made (next ∷ rest) all)
         ∙ append_assoc (events_in done) (made.event ∷ next.event ∷ events_in rest) p.missed)
+
+-- ---- what is handed in
+
+-- a quiet event hands in nothing
+quiet_hands : (e : CoreEvent) → is_quiet e ≡ true → reads_handed e ≡ None
+quiet_hands (event.Commit own reads) q = absurd (not_true q)
+quiet_hands _ q = refl
+
+-- an event behind the quiet ones hands in what its call has, or nothing
+loud_hands : (shape : Shape) (own : Option OwnTransaction) (handed : Option ReadSet) (session : ℕ) (asked : Command) (made : List Occurrence)
+    → (option_and_then reads_handed (loud_of shape own handed session asked made) ≡ None) ⊎ (option_and_then reads_handed (loud_of shape own handed session asked made) ≡ handed)
+loud_hands shape own handed session (command.Begin checked) made = inl refl
+loud_hands shape own handed session (command.Get table key) made = inl refl
+loud_hands shape own handed session (command.Scan table) made = inl refl
+loud_hands shape own handed session (command.Range table low high) made = inl refl
+loud_hands shape own handed session (command.Total table column low high) made = inl refl
+loud_hands shape None handed session (command.Insert table row) made = inl refl
+loud_hands shape (Some t) handed session (command.Insert table row) made = inl refl
+loud_hands shape None handed session (command.Update table row) made = inl refl
+loud_hands shape (Some t) handed session (command.Update table row) made = inl refl
+loud_hands shape None handed session (command.Delete table key) made = inl refl
+loud_hands shape (Some t) handed session (command.Delete table key) made = inl refl
+loud_hands shape None handed session command.Commit made = inl refl
+loud_hands shape (Some t) handed session command.Commit made = inr refl
+loud_hands shape None handed session command.Abort made = inl refl
+loud_hands shape (Some t) handed session command.Abort made = inl refl
+loud_hands shape own handed session command.Observe made = inl refl
+loud_hands shape own handed session command.Prune made = inl refl
+loud_hands shape own handed session (command.Compact table) made = go (plan_of (looks_in made))
+  where
+    go : (pairs : List MovePair) → (option_and_then reads_handed (move_of table pairs) ≡ None) ⊎ (option_and_then reads_handed (move_of table pairs) ≡ handed)
+    go [] = inl refl
+    go (pair ∷ pairs) = inl refl
+loud_hands shape own handed session (command.Seal table block) made = inl refl
+loud_hands shape own handed session (command.Gather table block) made = inl refl
+loud_hands shape own handed session (command.Export table) made = inl refl
+
+-- a call's last event hands in what its session had read, or nothing
+pub last_hands : (shape : Shape) (worker : Bool) (session : ℕ) (front : List Occurrence) (call : Call) (done : List Occurrence) (made : Occurrence)
+    → IsCall shape worker session front call → call.made ≡ done ++ made ∷ [] → (reads_handed made.event ≡ None) ⊎ (reads_handed made.event ≡ call.reads)
+last_hands shape worker session front call done made is all = go (refusal_of call.command (own_after front)) is
+  where
+    at : (tail : List CoreEvent) → events_of shape (own_after front) call.reads session call.command call.made ≡ events_in done ++ made.event ∷ tail
+        → (reads_handed made.event ≡ None) ⊎ (reads_handed made.event ≡ call.reads)
+    at tail e = or (placed shape (own_after front) call.reads session call.command call.made (events_in done) made.event tail e)
+      where
+        loud : loud_of shape (own_after front) call.reads session call.command call.made ≡ Some made.event
+            → (option_and_then reads_handed (loud_of shape (own_after front) call.reads session call.command call.made) ≡ None)
+            ⊎ (option_and_then reads_handed (loud_of shape (own_after front) call.reads session call.command call.made) ≡ call.reads)
+            → (reads_handed made.event ≡ None) ⊎ (reads_handed made.event ≡ call.reads)
+        loud l (inl none) = inl (sym (ap (option_and_then reads_handed) l) ∙ none)
+        loud l (inr same) = inr (sym (ap (option_and_then reads_handed) l) ∙ same)
+
+        or : (is_quiet made.event ≡ true) ⊎ ((tail ≡ []) × (loud_of shape (own_after front) call.reads session call.command call.made ≡ Some made.event))
+            → (reads_handed made.event ≡ None) ⊎ (reads_handed made.event ≡ call.reads)
+        or (inl q) = inl (quiet_hands made.event q)
+        or (inr l) = loud l.1 (loud_hands shape (own_after front) call.reads session call.command call.made)
+
+    go : (refusal : Option Said) → IsCallBy shape worker session (own_after front) refusal call → (reads_handed made.event ≡ None) ⊎ (reads_handed made.event ≡ call.reads)
+    go (Some refusal) h = absurd (none_behind done made [] (sym h.0 ∙ all))
+    go None (inl w) = at [] (sym w.events ∙ events_at call done made [] all)
+    go None (inr p) = at p.missed (p.events ∙ ap (λ es. es ++ p.missed) (events_at call done made [] all) ∙ append_assoc (events_in done) (made.event ∷ []) p.missed)
 
 -- ---- lines
 
@@ -89,7 +153,7 @@ quiet_tells worker made (event.Insert own table row) told asked line q h = absur
 quiet_tells worker made (event.Update own table row) told asked line q h = absurd (not_true q)
 quiet_tells worker made (event.Delete own table key) told asked line q h = absurd (not_true q)
 quiet_tells worker made (event.Read own table block) told asked line q h = h
-quiet_tells worker made (event.Commit own) told asked line q h = absurd (not_true q)
+quiet_tells worker made (event.Commit own reads) told asked line q h = absurd (not_true q)
 quiet_tells worker made (event.Abort own) told asked line q h = absurd (not_true q)
 quiet_tells worker made event.Oldest told asked line q h = h
 quiet_tells worker made (event.Observe table block) told asked line q h = h
@@ -114,7 +178,7 @@ unmoved shape parts (event.Read own table block) false q = go (is_imaged (body_a
     go : (b : Bool) → moved_told (cond b (reply.Shared (Rattle.block_spec.specs.Bodies.rows_of (body_at shape parts table block))) (reply.Rows (Rattle.event_spec.specs.Replies.rows_read shape parts own table block))) ≡ 0
     go true = refl
     go false = refl
-unmoved shape parts (event.Commit own) false q = refl
+unmoved shape parts (event.Commit own reads) false q = absurd (not_true q)
 unmoved shape parts (event.Abort own) false q = refl
 unmoved shape parts event.Oldest false q = refl
 unmoved shape parts (event.Observe table block) false q = refl
@@ -178,9 +242,11 @@ exports table (Some t) line e = go (least_written table t) e
 
 -- Each refusal of a command is a plain line.
 refusal_plain : (asked : Command) (own : Option OwnTransaction) (line : Said) → refusal_of asked own ≡ Some line → is_plain line ≡ true
-refusal_plain command.Begin own line e = begins own line e
+refusal_plain (command.Begin checked) own line e = begins own line e
 refusal_plain (command.Get table key) own line e = needs own line e
 refusal_plain (command.Scan table) own line e = needs own line e
+refusal_plain (command.Range table low high) own line e = needs own line e
+refusal_plain (command.Total table column low high) own line e = needs own line e
 refusal_plain (command.Insert table row) own line e = needs own line e
 refusal_plain (command.Update table row) own line e = needs own line e
 refusal_plain (command.Delete table key) own line e = needs own line e
@@ -231,13 +297,15 @@ module _ (shape : Shape) (worker : Bool) (session : ℕ) (call : Call) (done : L
 
   -- by the event behind the quiet ones
   at_loud : (asked : Command) (own : Option OwnTransaction) (e : CoreEvent) → call.told ≡ line_to worker (line_of own asked (replies_in call.made))
-      → loud_of shape own session asked call.made ≡ Some e
+      → loud_of shape own call.reads session asked call.made ≡ Some e
       → sum_by moved_told (replies_in call.made) ≡ moved_told made.reply
       → TellsAt worker call.made e made.reply asked call.told
-  at_loud command.Begin own e line is sum = subst (λ e. TellsAt worker call.made e made.reply command.Begin call.told)
-      (loud_same (event.Begin session) e is) (refl, line ∙ ap (line_to worker) (told_last 0 0))
+  at_loud (command.Begin checked) own e line is sum = subst (λ e. TellsAt worker call.made e made.reply (command.Begin checked) call.told)
+      (loud_same (event.Begin session) e is) ((checked, refl), line ∙ ap (line_to worker) (told_last 0 0))
   at_loud (command.Get table key) own e line is sum = absurd (loud_none e is)
   at_loud (command.Scan table) own e line is sum = absurd (loud_none e is)
+  at_loud (command.Range table low high) own e line is sum = absurd (loud_none e is)
+  at_loud (command.Total table column low high) own e line is sum = absurd (loud_none e is)
   at_loud (command.Insert table row) None e line is sum = absurd (loud_none e is)
   at_loud (command.Insert table row) (Some t) e line is sum = subst (λ e. TellsAt worker call.made e made.reply (command.Insert table row) call.told)
       (loud_same (event.Insert (Rattle.run_spec.specs.Opened.own_key table (key_of row) t) table row) e is) (refl, line ∙ ap (line_to worker) (told_last table 0))
@@ -249,7 +317,7 @@ module _ (shape : Shape) (worker : Bool) (session : ℕ) (call : Call) (done : L
       (loud_same (event.Delete (Rattle.run_spec.specs.Opened.own_key table key t) table key) e is) (refl, line ∙ ap (line_to worker) (told_last table 0))
   at_loud command.Commit None e line is sum = absurd (loud_none e is)
   at_loud command.Commit (Some t) e line is sum = subst (λ e. TellsAt worker call.made e made.reply command.Commit call.told)
-      (loud_same (event.Commit t) e is) (refl, line ∙ ap (line_to worker) (told_last 0 0))
+      (loud_same (event.Commit t call.reads) e is) (refl, line ∙ ap (line_to worker) (told_last 0 0))
   at_loud command.Abort None e line is sum = absurd (loud_none e is)
   at_loud command.Abort (Some t) e line is sum = subst (λ e. TellsAt worker call.made e made.reply command.Abort call.told)
       (loud_same (event.Abort t) e is) (refl, line ∙ ap (line_to worker) (told_last 0 0))
@@ -280,10 +348,10 @@ module _ (shape : Shape) (worker : Bool) (session : ℕ) (call : Call) (done : L
   at_quiet : (asked : Command) (own : Option OwnTransaction) → refusal_of asked own ≡ None
       → call.told ≡ line_to worker (line_of own asked (replies_in call.made))
       → events_in call.made ≡ quiet_of shape own asked call.made
-      → loud_of shape own session asked call.made ≡ None
+      → loud_of shape own call.reads session asked call.made ≡ None
       → sum_by moved_told (replies_in call.made) ≡ 0
       → TellsQuietly asked call.made call.told
-  at_quiet command.Begin own free line es is sum = absurd (no_loud (event.Begin session) is)
+  at_quiet (command.Begin checked) own free line es is sum = absurd (no_loud (event.Begin session) is)
     where
       no_loud : (e : CoreEvent) → Some e ≡ None → ⊥
       no_loud e h = cc
@@ -298,6 +366,12 @@ module _ (shape : Shape) (worker : Bool) (session : ℕ) (call : Call) (done : L
         inl got.2,
       )
   at_quiet (command.Scan table) own free line es is sum = said_plain (said.Scanned (Rattle.run_spec.specs.Told.in_key_order table (flat_map Rattle.run_spec.specs.Told.rows_told (replies_in call.made)))) refl refl line (command.Scan table)
+  at_quiet (command.Range table low high) own free line es is sum =
+      said_plain (said.Scanned (Rattle.run_spec.specs.Told.rows_between table low high (flat_map Rattle.run_spec.specs.Told.rows_told (replies_in call.made)))) refl refl line (command.Range table low high)
+  at_quiet (command.Total table column low high) own free line es is sum = said_plain
+      (Rattle.run_spec.specs.Told.total_told
+      (Rattle.isolation_spec.specs.Contents.numbers_between column low high (flat_map Rattle.run_spec.specs.Told.rows_told (replies_in call.made))))
+      refl refl line (command.Total table column low high)
   at_quiet (command.Insert table row) None free line es is sum = absurd (no_refusal said.NoTransaction free)
   at_quiet (command.Insert table row) (Some t) free line es is sum = absurd (let never : ⊥ = cc is in never)
   at_quiet (command.Update table row) None free line es is sum = absurd (no_refusal said.NoTransaction free)
@@ -322,10 +396,10 @@ module _ (shape : Shape) (worker : Bool) (session : ℕ) (call : Call) (done : L
   -- A whole call tells its line at its last event.
   whole : (own : Option OwnTransaction) → refusal_of call.command own ≡ None → IsWhole shape worker session own call
       → TellsAt worker call.made made.event made.reply call.command call.told
-  whole own free w = go (loud_of shape own session call.command call.made) refl
+  whole own free w = go (loud_of shape own call.reads session call.command call.made) refl
     where
-      events : quiet_of shape own call.command call.made ++ option_to_list (loud_of shape own session call.command call.made) ≡ events_in done ++ made.event ∷ []
-      events = sym (split_events shape own session call.command call.made) ∙ sym w.events ∙ events_at call done made [] all
+      events : quiet_of shape own call.command call.made ++ option_to_list (loud_of shape own call.reads session call.command call.made) ≡ events_in done ++ made.event ∷ []
+      events = sym (split_events shape own call.reads session call.command call.made) ∙ sym w.events ∙ events_at call done made [] all
 
       quiet : list_all is_quiet (quiet_of shape own call.command call.made) ≡ true
       quiet = are_quiet shape own call.command call.made
@@ -338,7 +412,7 @@ module _ (shape : Shape) (worker : Bool) (session : ℕ) (call : Call) (done : L
           let rest = init xs ys x y (tails a b (xs ++ x ∷ []) (ys ++ y ∷ []) e) in
           (ap (λ zs. a ∷ zs) rest.0 ∙ ap (λ z. z ∷ ys) (heads a b (xs ++ x ∷ []) (ys ++ y ∷ []) e), rest.1)
 
-      go : (o : Option CoreEvent) → loud_of shape own session call.command call.made ≡ o → TellsAt worker call.made made.event made.reply call.command call.told
+      go : (o : Option CoreEvent) → loud_of shape own call.reads session call.command call.made ≡ o → TellsAt worker call.made made.event made.reply call.command call.told
       go (Some e) is =
           let split = init (quiet_of shape own call.command call.made) (events_in done) e made.event
           (ap (λ o. quiet_of shape own call.command call.made ++ option_to_list o) (sym is) ∙ events) in
@@ -350,7 +424,7 @@ module _ (shape : Shape) (worker : Bool) (session : ℕ) (call : Call) (done : L
           at_loud call.command own made.event w.line (is ∙ ap Some split.1) sum
       go None is =
           let es : events_in call.made ≡ quiet_of shape own call.command call.made =
-          w.events ∙ split_events shape own session call.command call.made
+          w.events ∙ split_events shape own call.reads session call.command call.made
           ∙ ap (λ o. quiet_of shape own call.command call.made ++ option_to_list o) is
           ∙ Rattle.std.proofs.Common.append-nil (quiet_of shape own call.command call.made) in
           let none = sum_unmoved shape call.made replied (ap (list_all is_quiet) es ∙ quiet) in
@@ -383,11 +457,13 @@ module _ (shape : Shape) (worker : Bool) (session : ℕ) (call : Call) (done : L
   -- A call cut short tells want of memory at the event behind the quiet ones.
   at_cut : (asked : Command) (own : Option OwnTransaction) (e : CoreEvent) → may_lack_memory asked ≡ true → call.told ≡ Some said.Memory
       → (is_final e ≡ true → made.reply ≡ reply.Memory)
-      → loud_of shape own session asked call.made ≡ Some e
+      → loud_of shape own call.reads session asked call.made ≡ Some e
       → TellsAt worker call.made e made.reply asked call.told
-  at_cut command.Begin own e may line refused is = absurd (not_true may)
+  at_cut (command.Begin checked) own e may line refused is = absurd (not_true may)
   at_cut (command.Get table key) own e may line refused is = absurd (loud_none e is)
   at_cut (command.Scan table) own e may line refused is = absurd (loud_none e is)
+  at_cut (command.Range table low high) own e may line refused is = absurd (loud_none e is)
+  at_cut (command.Total table column low high) own e may line refused is = absurd (loud_none e is)
   at_cut (command.Insert table row) None e may line refused is = absurd (loud_none e is)
   at_cut (command.Insert table row) (Some t) e may line refused is =
       let same = loud_same (event.Insert (Rattle.run_spec.specs.Opened.own_key table (key_of row) t) table row) e is in
@@ -425,10 +501,10 @@ module _ (shape : Shape) (worker : Bool) (session : ℕ) (call : Call) (done : L
 
   -- A call cut short tells its line at its last event.
   part : (own : Option OwnTransaction) → IsPart shape session own call → TellsAt worker call.made made.event made.reply call.command call.told
-  part own p = go (placed shape own session call.command call.made (events_in done) made.event p.missed
+  part own p = go (placed shape own call.reads session call.command call.made (events_in done) made.event p.missed
       (p.events ∙ ap (λ es. es ++ p.missed) (events_at call done made [] all) ∙ append_assoc (events_in done) (made.event ∷ []) p.missed))
     where
-      go : (is_quiet made.event ≡ true) ⊎ ((p.missed ≡ []) × (loud_of shape own session call.command call.made ≡ Some made.event))
+      go : (is_quiet made.event ≡ true) ⊎ ((p.missed ≡ []) × (loud_of shape own call.reads session call.command call.made ≡ Some made.event))
           → TellsAt worker call.made made.event made.reply call.command call.told
       go (inl q) = quiet_tells worker call.made made.event made.reply call.command call.told q (said.Memory, p.line, inl refl)
       go (inr l) = at_cut call.command own made.event p.may p.line
@@ -455,30 +531,37 @@ no_event : (e : CoreEvent) (es : List CoreEvent) → [] ≡ e ∷ es → ⊥
 no_event e es h = cc
 
 -- A call without an event that is not refused tells plainly.
-none_told : (shape : Shape) (worker : Bool) (session : ℕ) (asked : Command) (own : Option OwnTransaction) (told : Option Said)
-    → refusal_of asked own ≡ None → [] ≡ events_of shape own session asked [] → told ≡ line_to worker (line_of own asked []) → Plainly told
-none_told shape worker session command.Begin own told free es line = absurd (no_event (event.Begin session) [] es)
-none_told shape worker session (command.Get table key) None told free es line = absurd (no_refusal said.NoTransaction free)
-none_told shape worker session (command.Get table key) (Some t) told free es line = absurd (let never : ⊥ = cc es in never)
-none_told shape worker session (command.Scan table) own told free es line =
+none_told : (shape : Shape) (worker : Bool) (handed : Option ReadSet) (session : ℕ) (asked : Command) (own : Option OwnTransaction) (told : Option Said)
+    → refusal_of asked own ≡ None → [] ≡ events_of shape own handed session asked [] → told ≡ line_to worker (line_of own asked []) → Plainly told
+none_told shape worker handed session (command.Begin checked) own told free es line = absurd (no_event (event.Begin session) [] es)
+none_told shape worker handed session (command.Get table key) None told free es line = absurd (no_refusal said.NoTransaction free)
+none_told shape worker handed session (command.Get table key) (Some t) told free es line = absurd (let never : ⊥ = cc es in never)
+none_told shape worker handed session (command.Scan table) own told free es line =
     (said.Scanned (Rattle.run_spec.specs.Told.in_key_order table []), line ∙ not_silent worker (said.Scanned (Rattle.run_spec.specs.Told.in_key_order table [])) refl, inl refl)
-none_told shape worker session (command.Insert table row) None told free es line = absurd (no_refusal said.NoTransaction free)
-none_told shape worker session (command.Insert table row) (Some t) told free es line = absurd (let never : ⊥ = cc es in never)
-none_told shape worker session (command.Update table row) None told free es line = absurd (no_refusal said.NoTransaction free)
-none_told shape worker session (command.Update table row) (Some t) told free es line = absurd (let never : ⊥ = cc es in never)
-none_told shape worker session (command.Delete table key) None told free es line = absurd (no_refusal said.NoTransaction free)
-none_told shape worker session (command.Delete table key) (Some t) told free es line = absurd (let never : ⊥ = cc es in never)
-none_told shape worker session command.Commit None told free es line = absurd (no_refusal said.NoTransaction free)
-none_told shape worker session command.Commit (Some t) told free es line = absurd (no_event (event.Commit t) [] es)
-none_told shape worker session command.Abort None told free es line = absurd (no_refusal said.NoTransaction free)
-none_told shape worker session command.Abort (Some t) told free es line = absurd (no_event (event.Abort t) [] es)
-none_told shape worker session command.Observe own told free es line = (said.Cooling 0, line ∙ not_silent worker (said.Cooling 0) refl, inl refl)
-none_told shape worker session command.Prune own told free es line = absurd (no_event event.Oldest [] es)
-none_told shape worker session (command.Compact table) own told free es line = (said.Moved 0, line ∙ not_silent worker (said.Moved 0) refl, inr refl)
-none_told shape worker session (command.Seal table block) own told free es line = absurd (no_event (event.Seal table block) [] es)
-none_told shape worker session (command.Gather table block) own told free es line = absurd (let never : ⊥ = cc es in never)
-none_told shape worker session (command.Export table) None told free es line = absurd (no_refusal said.NoTransaction free)
-none_told shape worker session (command.Export table) (Some t) told free es line =
+none_told shape worker handed session (command.Range table low high) own told free es line =
+    (said.Scanned (Rattle.run_spec.specs.Told.rows_between table low high []), line ∙ not_silent worker (said.Scanned (Rattle.run_spec.specs.Told.rows_between table low high [])) refl, inl refl)
+none_told shape worker handed session (command.Total table column low high) own told free es line = (
+  Rattle.run_spec.specs.Told.total_told (Rattle.isolation_spec.specs.Contents.numbers_between column low high []),
+  line ∙ not_silent worker (Rattle.run_spec.specs.Told.total_told (Rattle.isolation_spec.specs.Contents.numbers_between column low high [])) refl,
+  inl refl,
+)
+none_told shape worker handed session (command.Insert table row) None told free es line = absurd (no_refusal said.NoTransaction free)
+none_told shape worker handed session (command.Insert table row) (Some t) told free es line = absurd (let never : ⊥ = cc es in never)
+none_told shape worker handed session (command.Update table row) None told free es line = absurd (no_refusal said.NoTransaction free)
+none_told shape worker handed session (command.Update table row) (Some t) told free es line = absurd (let never : ⊥ = cc es in never)
+none_told shape worker handed session (command.Delete table key) None told free es line = absurd (no_refusal said.NoTransaction free)
+none_told shape worker handed session (command.Delete table key) (Some t) told free es line = absurd (let never : ⊥ = cc es in never)
+none_told shape worker handed session command.Commit None told free es line = absurd (no_refusal said.NoTransaction free)
+none_told shape worker handed session command.Commit (Some t) told free es line = absurd (no_event (event.Commit t handed) [] es)
+none_told shape worker handed session command.Abort None told free es line = absurd (no_refusal said.NoTransaction free)
+none_told shape worker handed session command.Abort (Some t) told free es line = absurd (no_event (event.Abort t) [] es)
+none_told shape worker handed session command.Observe own told free es line = (said.Cooling 0, line ∙ not_silent worker (said.Cooling 0) refl, inl refl)
+none_told shape worker handed session command.Prune own told free es line = absurd (no_event event.Oldest [] es)
+none_told shape worker handed session (command.Compact table) own told free es line = (said.Moved 0, line ∙ not_silent worker (said.Moved 0) refl, inr refl)
+none_told shape worker handed session (command.Seal table block) own told free es line = absurd (no_event (event.Seal table block) [] es)
+none_told shape worker handed session (command.Gather table block) own told free es line = absurd (let never : ⊥ = cc es in never)
+none_told shape worker handed session (command.Export table) None told free es line = absurd (no_refusal said.NoTransaction free)
+none_told shape worker handed session (command.Export table) (Some t) told free es line =
     (Rattle.run_spec.specs.Told.summary_of t [], line ∙ not_silent worker (Rattle.run_spec.specs.Told.summary_of t []) refl, inl refl)
 
 -- a call without an event tells nothing that counts
@@ -487,7 +570,7 @@ refusals_are_plain shape worker session front call is none = go (refusal_of call
   where
     go : (refusal : Option Said) → refusal_of call.command (own_after front) ≡ refusal → IsCallBy shape worker session (own_after front) refusal call → Plainly call.told
     go (Some refusal) e h = (refusal, h.1, inl (refusal_plain call.command (own_after front) refusal e))
-    go None e (inl w) = none_told shape worker session call.command (own_after front) call.told e
-        (sym (ap events_in none) ∙ w.events ∙ ap (events_of shape (own_after front) session call.command) none)
+    go None e (inl w) = none_told shape worker call.reads session call.command (own_after front) call.told e
+        (sym (ap events_in none) ∙ w.events ∙ ap (events_of shape (own_after front) call.reads session call.command) none)
         (w.line ∙ ap (λ made. line_to worker (line_of (own_after front) call.command (replies_in made))) none)
     go None e (inr p) = (said.Memory, p.line, inl refl)

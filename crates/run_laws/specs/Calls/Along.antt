@@ -3,6 +3,7 @@ use Rattle.std.specs.Prelude.{◌≡◌, ℕ, Bool, true, List, [], ◌∷◌, �
 use Rattle.std.specs.List.{flat_map, list_all}
 use Rattle.core_laws.specs.Events.Laws.{IsStep, command_in}
 use Rattle.event_spec.specs.Parts.{Parts, Shape}
+use Rattle.event_spec.specs.Lawful.{reads_handed}
 use Rattle.event_spec.specs.Replay.{IsLawfulLog, after, opening, reply_after}
 use Rattle.event_spec.specs.Sound.{IsShape}
 use Rattle.isolation_spec.specs.Machine.{IsolationMachine}
@@ -19,7 +20,8 @@ GoesAlong shape parts front before [] = AgreesWith front before
 GoesAlong shape parts front before (entry ∷ log) =
     AgreesWith front before
     × (next : IsolationMachine)
-    × IsStep (command_in entry.made.event) before (reply_after shape parts entry.made) next
+    × IsStep (command_in entry.made.event) (reads_handed entry.made.event) before
+    (reply_after shape parts entry.made) next
     × GoesAlong
     shape
     (after shape parts entry.made)

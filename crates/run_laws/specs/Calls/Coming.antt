@@ -2,6 +2,7 @@
 use Rattle.std.specs.Prelude.{◌≡◌, ℕ, Bool, true, false, List, [], ◌∷◌, IfSome, Some}
 use Rattle.core_laws.specs.Events.Laws.{IsStep, command_in}
 use Rattle.event_spec.specs.Parts.{Shape}
+use Rattle.event_spec.specs.Lawful.{reads_handed}
 use Rattle.isolation_spec.specs.Machine.{IsolationMachine, transaction_of}
 use Rattle.timeline_spec.specs.Timeline.{Answers, request_of}
 use Rattle.workload_spec.specs.declared.command.Command.{Command}
@@ -15,9 +16,11 @@ use Rattle.run_laws.specs.Calls.Open.{OpenAs}
 
 -- the commands that ask the machine by one event, behind a thaw where they need one
 abbrev pub is_single : Command → Bool
-is_single command.Begin = true
+is_single (command.Begin checked) = true
 is_single (command.Get table key) = true
 is_single (command.Scan table) = false
+is_single (command.Range table low high) = false
+is_single (command.Total table column low high) = false
 is_single (command.Insert table row) = true
 is_single (command.Update table row) = true
 is_single (command.Delete table key) = true
@@ -33,7 +36,8 @@ is_single (command.Export table) = false
 -- The machine at the last of some events, and behind it; at a moment of none it stays.
 abbrev pub EndsAt : List Occurrence → IsolationMachine → IsolationMachine → Type 0
 EndsAt [] machine next = next ≡ machine
-EndsAt (last ∷ []) machine next = IsStep (command_in last.event) machine last.reply next
+EndsAt (last ∷ []) machine next = IsStep (command_in last.event) (reads_handed last.event)
+    machine last.reply next
 EndsAt (first ∷ second ∷ rest) machine next = EndsAt (second ∷ rest) machine next
 
 -- What a session is told of such a command, refused, carried out or cut short, the machine answers
@@ -49,4 +53,4 @@ LinesComeAbout = (shape : Shape) (session : ℕ) (front : List Occurrence) (call
     → EndsAt call.made machine next
     → IfSome
     (request_of (Session session) call.command)
-    (λ request. Answers machine request line next)
+    (λ request. Answers machine call.reads request line next)

@@ -3,7 +3,7 @@
 use Rattle.std.specs.Prelude.{◌≡◌, ℕ, List, [], ◌∷◌, ◌++◌, Option, IfSome, option_map}
 use Rattle.core_laws.specs.Events.Laws.{IsStep, command_in}
 use Rattle.event_spec.specs.declared.own.OwnTransaction.{OwnTransaction}
-use Rattle.event_spec.specs.Lawful.{session_of}
+use Rattle.event_spec.specs.Lawful.{reads_handed, session_of}
 use Rattle.event_spec.specs.Parts.{Parts, Shape}
 use Rattle.event_spec.specs.Replay.{reply_after}
 use Rattle.isolation_spec.specs.Machine.{IsolationMachine, Transaction, opening, transaction_of}
@@ -36,6 +36,7 @@ abbrev pub OpensAsTheMachine : Type 0
 OpensAsTheMachine = (shape : Shape) (parts : Parts) (entry : Logged) (front : List Occurrence)
     (machine next : IsolationMachine)
     → IsNamed entry
-    → IsStep (command_in entry.made.event) machine (reply_after shape parts entry.made) next
+    → IsStep (command_in entry.made.event) (reads_handed entry.made.event) machine
+    (reply_after shape parts entry.made) next
     → AgreesWith front machine
     → AgreesWith (front ++ occurrence_of shape parts entry ∷ []) next

@@ -1,15 +1,16 @@
 -- The rounds that ran are a run of their workload, with the text of their lines.
-use Rattle.std.specs.Prelude.{◌≡◌, ℕ, ◌<◌, ◌^◌, true, List, [], map, Some, All}
+use Rattle.std.specs.Prelude.{◌≡◌, ℕ, ◌<◌, ◌^◌, true, List, [], map, None, Some, All}
 use Rattle.outcome_spec.specs.Explained.{Explained}
 use Rattle.timeline_spec.specs.Printed.{text_of}
 use Rattle.workload_spec.specs.Valid.{is_valid}
 use Rattle.workload_spec.specs.declared.reply.Said.TheVariants as said
+use Rattle.workload_spec.specs.declared.reply.Who.{Who}
 use Rattle.workload_spec.specs.declared.script.Line.{Line}
 use Rattle.workload_spec.specs.declared.script.Script.{Script}
 use Rattle.run_laws.specs.Explained.Timelines.{PruningsFit}
-use Rattle.run_spec.specs.Calls.{Call}
+use Rattle.run_spec.specs.Calls.{Call, Kept}
 use Rattle.run_spec.specs.Occurrences.{Logged}
-use Rattle.run_spec.specs.Ran.{Ran, RoundRun, Share, agenda_of, agendas_in, told_in}
+use Rattle.run_spec.specs.Ran.{Ran, RoundRun, Share, agenda_of, agendas_in, calls_of, told_in}
 use Rattle.run_laws.specs.Rounds.Fronts.{with_rounds}
 use Rattle.run_laws.specs.Rounds.Lines.{rounds_text}
 use Rattle.run_laws.specs.Rounds.Rounds.{RanSoFar}
@@ -26,11 +27,13 @@ pub record RanAs (script : Script) (rounds : List RoundRun) (log : List Logged) 
   pub ran : Ran script log text
   pub rounds_are : ran.rounds ≡ rounds
 
--- The rounds that ran are a run of a script of just these rounds.
+-- The rounds that ran are a run of a script of just these rounds, where each call knows what those
+-- of its session before it were told that was read.
 abbrev pub RoundsRan : Type 0
 RoundsRan = (script : Script) (asked : List (List Line)) (rounds : List RoundRun)
     (finished : List Logged)
     → RanSoFar script asked rounds finished
+    → ((who : Who) → Kept None (calls_of who rounds))
     → RanAs (with_rounds asked script) rounds finished (rounds_text script.tables 1 rounds)
 
 -- what a call told is no pruning's count beyond 64 bits
@@ -50,6 +53,7 @@ RoundsAreExplained = (script : Script) (asked : List (List Line)) (rounds : List
     (finished : List Logged)
     → is_valid (with_rounds asked script) ≡ true
     → RanSoFar script asked rounds finished
+    → ((who : Who) → Kept None (calls_of who rounds))
     → All AreCounted rounds
     → Explained (with_rounds asked script) (rounds_text script.tables 1 rounds)
 

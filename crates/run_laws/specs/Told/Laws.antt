@@ -27,7 +27,7 @@ is_quiet (event.Insert own table row) = false
 is_quiet (event.Update own table row) = false
 is_quiet (event.Delete own table key) = false
 is_quiet (event.Read own table block) = true
-is_quiet (event.Commit own) = false
+is_quiet (event.Commit own reads) = false
 is_quiet (event.Abort own) = false
 is_quiet event.Oldest = true
 is_quiet (event.Observe table block) = true
@@ -46,6 +46,7 @@ is_plain said.NoTransaction = true
 is_plain (said.Found row) = true
 is_plain said.Absent = true
 is_plain (said.Scanned rows) = true
+is_plain (said.Totalled count sum) = true
 is_plain said.Accepted = false
 is_plain (said.ConflictSession session) = true
 is_plain (said.ConflictCommit number) = true
@@ -54,6 +55,7 @@ is_plain said.Missing = true
 is_plain (said.Freezing table block stamp) = false
 is_plain said.Full = false
 is_plain (said.Committed number) = false
+is_plain (said.Stale what number) = true
 is_plain said.Aborted = false
 is_plain (said.Cooling count) = true
 is_plain (said.Pruned count) = false
@@ -86,7 +88,8 @@ TellsMove told line =
 abbrev pub TellsAt
     : Bool → List Occurrence → CoreEvent → CoreReply → Command → Option Said → Type 0
 TellsAt worker made (event.Begin session) told asked line =
-    (asked ≡ command.Begin) × (line ≡ line_to worker (told_by 0 0 told))
+    ((checked : Bool) × (asked ≡ command.Begin checked))
+    × (line ≡ line_to worker (told_by 0 0 told))
 TellsAt worker made (event.Get own table key) told asked line = TellsQuietly asked made line
 TellsAt worker made (event.Insert own table row) told asked line =
     (asked ≡ command.Insert table row) × (line ≡ line_to worker (told_by table 0 told))
@@ -95,7 +98,7 @@ TellsAt worker made (event.Update own table row) told asked line =
 TellsAt worker made (event.Delete own table key) told asked line =
     (asked ≡ command.Delete table key) × (line ≡ line_to worker (told_by table 0 told))
 TellsAt worker made (event.Read own table block) told asked line = TellsQuietly asked made line
-TellsAt worker made (event.Commit own) told asked line =
+TellsAt worker made (event.Commit own reads) told asked line =
     (asked ≡ command.Commit) × (line ≡ line_to worker (told_by 0 0 told))
 TellsAt worker made (event.Abort own) told asked line =
     (asked ≡ command.Abort) × (line ≡ line_to worker (told_by 0 0 told))

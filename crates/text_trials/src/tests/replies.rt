@@ -6,7 +6,7 @@ use workload_spec::{Cause, ReplyLine, Said, Who};
 /// Texts of no reply over no table: no line, or one too many; words that there are not, too many or
 /// too few; a second spelling; a number past its type; rows out of count, without a bar or without
 /// a cell; a table that there is not.
-const NO_REPLIES: [&str; 34] = [
+const NO_REPLIES: [&str; 43] = [
     "",
     "\n",
     "1 2 5 ok",
@@ -41,6 +41,15 @@ const NO_REPLIES: [&str; 34] = [
     "1 2 5 rows 1\n1\n",
     "1 2 5 rows 1\n| \n",
     "1 2 5 rows 2\n| 1\n| 2",
+    "1 2 5 stale a 2 #2\n",
+    "1 2 5 stale table a #1\n",
+    "1 2 5 stale range a 1 2 #1\n",
+    "1 2 5 stale\n",
+    "1 2 5 total 3\n",
+    "1 2 5 total 3 +1\n",
+    "1 2 5 total 3 -0\n",
+    "1 2 5 total 18446744073709551616 0\n",
+    "1 2 5 total 3 170141183460469231731687303715884105728\n",
 ];
 
 #[test]
@@ -48,6 +57,25 @@ fn other_texts_are_no_replies(rt: HostRuntime) -> Result<(), Fail> {
     for text in NO_REPLIES {
         let read = read_line(rt.alloc(), text.as_bytes(), &[])?;
         assert!(rt; read.is_none(), "{text}");
+    }
+    Ok(())
+}
+
+/// The texts of totals, with the least and the greatest sum.
+const TOTALS: [&str; 3] = [
+    "1 2 5 total 0 0\n",
+    "1 2 5 total 18446744073709551615 -170141183460469231731687303715884105728\n",
+    "1 2 5 total 3 170141183460469231731687303715884105727\n",
+];
+
+#[test]
+fn totals_are_read_and_printed_back(rt: HostRuntime) -> Result<(), Fail> {
+    let alloc = rt.alloc();
+    for text in TOTALS {
+        let line = read_line(alloc, text.as_bytes(), &[])?.ok_or("the text is a total")?;
+        let mut out = Vec::new(alloc);
+        put_line(&mut out, &[], &line)?;
+        assert_eq!(rt; out.as_slice(), text.as_bytes());
     }
     Ok(())
 }

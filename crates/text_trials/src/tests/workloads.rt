@@ -42,12 +42,53 @@ fn a_workload_of_each_command_and_kind_is_read_and_printed_back(
 fn a_workload_of_the_second_version_is_read_and_printed_back(rt: HostRuntime) -> Result<(), Fail> {
     let alloc = rt.alloc();
     let bytes = b"store 2\ntable a key:i64 b:large_utf8? c:large_binary d:fixed3? e:fixed1024? \
-          f:date slots 8 blocks 2\nsessions 1\nworkers 0 0\ngo\n1 insert a 1 \"\" x x0a0bff null \
-          -2147483648\n1 update a 1 null x00 null null 2147483647\n";
+          f:date slots 8 blocks 2\nsessions 1\nworkers 0 0\ngo\n1 begin checked\n1 insert a 1 \"\" x \
+          x0a0bff null -2147483648\n1 update a 1 null x00 null null 2147483647\n";
     let script = parse(alloc, bytes).ok().ok_or("the bytes are a workload")?;
     assert_eq!(rt; script.version, 2);
     let printed = print(alloc, &script)?;
     assert_eq!(rt; printed.as_slice(), bytes.as_slice());
+    Ok(())
+}
+
+/// A version, and a line of a round whose command the version does not take.
+const OTHER_COMMANDS: [(&'static [u8], &'static [u8]); 12] = [
+    (b"1", b"1 begin checked"),
+    (b"1", b"1 range a 1 2"),
+    (b"1", b"1 total a n 1 2"),
+    (b"2", b"1 range a 1 2"),
+    (b"2", b"1 total a n 1 2"),
+    (b"2", b"1 begin checked now"),
+    (b"2", b"1 begin Checked"),
+    (b"2", b"1 begin checked "),
+    (b"2", b"1 begin  checked"),
+    (b"2", b"1 begin plain"),
+    (b"2", b"1 checked"),
+    (b"2", b"1 commit checked"),
+];
+
+/// The workload of a version with one line in its round.
+fn workload_with(alloc: Global, version: &[u8], line: &[u8]) -> Result<Vec<u8>, AllocError> {
+    let mut text = texts_joined(alloc, b"store ", version)?;
+    text.extend_from_slice(b"\ntable a key:i64 n:i8? slots 8 blocks 2\nsessions 2\nworkers 0 0\n")?;
+    text.extend_from_slice(b"go\n")?;
+    text.extend_from_slice(line)?;
+    text.push(b'\n')?;
+    Ok(text)
+}
+
+#[test]
+fn a_command_that_the_version_does_not_take_is_refused(rt: HostRuntime) -> Result<(), Fail> {
+    let alloc = rt.alloc();
+    for (version, line) in &OTHER_COMMANDS {
+        match parse(alloc, &workload_with(alloc, *version, *line)?) {
+            Err(ScriptFault::Bad { line, cause }) => {
+                assert_eq!(rt; line, 6);
+                assert_eq!(rt; cause, Cause::Command);
+            }
+            _ => return Err(Fail::from("the version takes no such command")),
+        }
+    }
     Ok(())
 }
 

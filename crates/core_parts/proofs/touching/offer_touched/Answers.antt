@@ -6,8 +6,8 @@ use Rattle.core_parts.proofs.Numbered.{offered_twice}
 use Rattle.event_spec.specs.Parts.{HeadOf, BodyOf}
 use Rattle.core_parts.proofs.touching.offer_touched.Goals as goal
 
-pub returns-in-Prune : goal.returns-in-Prune
-returns-in-Prune c =
+pub returns-in-Prune-clause-offered : goal.returns-in-Prune-clause-offered
+returns-in-Prune-clause-offered c =
     let sh = c.args.shape.now in
     let t = c.in-Prune.table in
     let b = c.in-Prune.block in

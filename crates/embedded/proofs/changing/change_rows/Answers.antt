@@ -1,4 +1,5 @@
-use Rattle.std.proofs.Common.{None, Some, [], sym, subst, ◌∙◌, arith}
+use Rattle.std.proofs.Common.{ℕ, Option, None, Some, [], sym, subst, ◌∙◌, arith}
+use Rattle.std.specs.Prelude.{Ok}
 use Rattle.std.specs.BTreeMap.{insert_entry}
 use Rattle.std.specs.Int.{w64}
 use Rattle.std.proofs.lemmas.Int.{to_z-of_z}
@@ -6,6 +7,7 @@ use Rattle.isolation_spec.specs.Contents.{place_cmp, place_of}
 use Rattle.shared_store.specs.Open.{Commits, commits_seen}
 use Rattle.embedded.proofs.Changes.{all_put, finds_changes, inserted, is_numbered}
 use Rattle.embedded.proofs.Handing.{begins, opens}
+use Rattle.embedded.proofs.Plain.{plain_begun, plain_scanned}
 use Rattle.embedded.proofs.Rooms.{told_done, told_memory, told_refused}
 use Rattle.embedded.proofs.changing.change_rows.Goals as goal
 
@@ -50,6 +52,14 @@ commit-requires-clause-busy g c =
     c.in_ok-insert.ensures.writes c.in_ok-insert-2.ensures.writes c.in_ok-update.ensures.writes c.in_ok-delete.ensures.writes in
     (c.in_ok-own.ensures.finds commits _ put).is_open.busy
 
+pub unwrap-stood-requires : goal.unwrap-stood-requires
+unwrap-stood-requires g c =
+    c.commit.ensures.plain
+    (plain_scanned c.delete.new.session c.scan_uncounted.new.session c.args.table c.in_ok-own.own
+    (c.in_ok-delete.ensures.answers.keeps ∙ c.in_ok-update.ensures.answers.keeps ∙ c.in_ok-insert-2.ensures.answers.keeps ∙ c.in_ok-insert.ensures.answers.keeps
+    ∙ plain_begun c.args.one.now c.begin.new.session c.begin.result c.unwrap-began.result c.unwrap-began.ensures c.begin.ensures.answers.keeps)
+    c.in_ok-own.ensures.answers.keeps)
+
 pub unwrap-committed-requires : goal.unwrap-committed-requires
 unwrap-committed-requires g c =
     let st = c.args.store.now in
@@ -60,8 +70,9 @@ unwrap-committed-requires g c =
     c.in_ok-insert.ensures.writes c.in_ok-insert-2.ensures.writes c.in_ok-update.ensures.writes c.in_ok-delete.ensures.writes in
     let kept = place_of c.args.table c.args.first in
     let dropped = place_of c.args.table c.args.second in
-    is_numbered st c.scan_uncounted.new.session c.commit.new.session commits (insert_entry place_cmp (inserted kept dropped c.args.first c.args.second) kept (Some c.args.changed)) dropped None c.commit.result
-    (c.in_ok-own.ensures.finds commits _ put).is_open c.commit.ensures.commits
+    is_numbered st c.scan_uncounted.new.session c.commit.new.session commits (insert_entry place_cmp (inserted kept dropped c.args.first c.args.second) kept (Some c.args.changed)) dropped None c.unwrap-stood.result
+    (c.in_ok-own.ensures.finds commits _ put).is_open
+    (subst (Commits st c.scan_uncounted.new.session c.commit.new.session) c.unwrap-stood.ensures c.commit.ensures.commits)
 
 pub unwrap-sees-requires : goal.unwrap-sees-requires
 unwrap-sees-requires g c =
@@ -79,7 +90,8 @@ returns-clause-finds g c =
     c.args.table c.args.key c.args.first c.args.second c.args.changed c.in_ok-own.own c.in_ok-other.other c.unwrap-began.result c.unwrap-committed.result c.unwrap-sees.result
     c.begin.ensures.session c.requires.kept c.requires.dropped c.requires.apart begun
     (c.in_ok-own.ensures.finds commits _ put)
-    (subst (Commits st c.scan_uncounted.new.session c.commit.new.session) c.unwrap-committed.ensures c.commit.ensures.commits)
+    (subst (λ (number : Option ℕ). Commits st c.scan_uncounted.new.session c.commit.new.session (Ok number)) c.unwrap-committed.ensures
+    (subst (Commits st c.scan_uncounted.new.session c.commit.new.session) c.unwrap-stood.ensures c.commit.ensures.commits))
     c.meet.ensures.commits_a c.meet.ensures.b.sees
     (opens st c.meet.new.b c.begin-2.new.session c.begin-2.result c.unwrap-sees.result c.unwrap-sees.ensures c.begin-2.ensures.opens)
     c.in_ok-other.ensures.finds

@@ -16,3 +16,9 @@ returns-in-Delete-clause-made g c =
     let key : to_z w64 (of_z w64 c.in-Delete.key) ≡ c.in-Delete.key = to_z-of_z {w = w64} (search rules) in
     subst (λ (e : CoreEvent). Runs c.args.shape.now e c.args.held.now c.deleted.new.held c.deleted.result) c.in-Delete.ensures.event
     (subst (λ (k : ℤ). Runs c.args.shape.now (event.Delete c.in-Delete.own c.in-Delete.table k) c.args.held.now c.deleted.new.held c.deleted.result) key c.deleted.ensures)
+
+pub returns-in-Commit-clause-made : goal.returns-in-Commit-clause-made
+returns-in-Commit-clause-made g c = subst (λ (e : CoreEvent). Runs c.args.shape.now e c.args.held.now c.committed.new.held c.committed.result) c.in-Commit.ensures.event c.committed.ensures
+
+pub returns-in-Prune-clause-made : goal.returns-in-Prune-clause-made
+returns-in-Prune-clause-made g c = subst (λ (e : CoreEvent). Runs c.args.shape.now e c.args.held.now c.pruned.new.held c.pruned.result) c.in-Prune.ensures.event c.pruned.ensures

@@ -1,10 +1,10 @@
 use Rattle.std.proofs.Common.{◌≡◌, true, take, List}
 use Rattle.std.specs.List.{list_all}
 use Rattle.cell_model.specs.declared.table.TableDecl.{TableDecl}
-use Rattle.outcome_judge.specs.Conflicts.{numbers_hold}
+use Rattle.outcome_judge.specs.Judged.{numbers_stand}
 use Rattle.outcome_spec.specs.Runs.{run_of}
 use Rattle.output_read.specs.Kept.{entries_of}
 use Rattle.outcome_judge.proofs.clashes.numbers_end.Given as goal
 
 abbrev pub invariant-loop-at : goal.invariant-loop-at
-invariant-loop-at l = (tables : List TableDecl) → list_all (numbers_hold (run_of tables (entries_of l.replies))) (take l.at (entries_of l.replies)) ≡ true
+invariant-loop-at l = (tables : List TableDecl) → list_all (numbers_stand (run_of tables (entries_of l.replies))) (take l.at (entries_of l.replies)) ≡ true

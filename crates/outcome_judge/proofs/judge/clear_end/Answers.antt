@@ -1,5 +1,5 @@
 use Rattle.std.proofs.Common.{[], arith}
-use Rattle.outcome_judge.specs.Conflicts.{heights_hold, numbers_hold}
+use Rattle.outcome_judge.specs.Judged.{heights_stand, numbers_stand}
 use Rattle.outcome_spec.specs.Runs.{run_of}
 use Rattle.output_read.specs.Kept.{entries_of}
 use Rattle.outcome_judge.proofs.Ends.{both-end}
@@ -10,5 +10,5 @@ numbers_end-requires-clause-within c = omega (arith, (c.heights_end-low.ensures 
 
 pub returns : goal.returns
 returns c = λ tables.
-    both-end (heights_hold (run_of tables (entries_of c.args.replies.now))) (numbers_hold (run_of tables (entries_of c.args.replies.now)))
+    both-end (heights_stand (run_of tables (entries_of c.args.replies.now))) (numbers_stand (run_of tables (entries_of c.args.replies.now)))
     c.args.replies.now c.args.until c.heights_end-low.result c.numbers_end.result (c.heights_end-low.ensures tables) (c.numbers_end.ensures tables)

@@ -1,4 +1,4 @@
-use Rattle.std.proofs.Common.{◌≡◌, ◌&&◌, ℕ, Bool, true, false, not, List, [], ◌∷◌, map, Option, None, Some, refl, arith, pos, nat_le}
+use Rattle.std.proofs.Common.{◌≡◌, ◌==◌, cond, ◌&&◌, ℕ, Bool, true, false, not, List, [], ◌∷◌, map, Option, None, Some, refl, arith, pos, nat_le}
 use mathlib.Core.Logic.{inl}
 use Rattle.std.specs.Prelude.{All, take, drop}
 use Rattle.std.specs.List.{list_all}
@@ -13,9 +13,11 @@ use Rattle.workload_spec.specs.declared.command.Command.TheVariants as command
 use Rattle.workload_spec.specs.declared.reply.Said.{Said}
 use Rattle.workload_spec.specs.declared.reply.Said.TheVariants as said
 use Rattle.workload_spec.specs.declared.reply.Who.TheVariants.{Session, Worker}
-use Rattle.run_spec.specs.Calls.{Call}
+use Rattle.workload_spec.specs.declared.reply.Who.{Who}
+use Rattle.std.specs.List.{flat_map}
+use Rattle.run_spec.specs.Calls.{Call, Kept}
 use Rattle.run_spec.specs.Occurrences.{Logged, Occurrence, occurrences_in, under}
-use Rattle.run_spec.specs.Ran.{IsDone, IsOfScript, RoundRun, Share, shape_of}
+use Rattle.run_spec.specs.Ran.{IsDone, IsOfScript, RoundRun, Share, calls_of, shape_of}
 use Rattle.run_spec.specs.RunExamples.{script, log, own}
 use Rattle.run_spec.specs.Told.{is_shared}
 use Rattle.run_spec.specs.Traces.{LendsFit, as_event}
@@ -29,14 +31,14 @@ abbrev some_of : ℕ → ℕ → ℕ → List Occurrence
 some_of session first count = take count (drop first (under session made))
 
 abbrev call : Command → List Occurrence → Option Said → Call
-call asked occurrences told = record { command = asked; made = occurrences; told = told }
+call asked occurrences told = record { command = asked; made = occurrences; told = told; reads = None }
 
 abbrev session_share : Share
 session_share = record {
   who = Session 1;
   calls =
-      call command.Begin (some_of 1 0 1) (Some (said.At 0))
-      ∷ call command.Begin [] (Some said.InTransaction)
+      call (command.Begin false) (some_of 1 0 1) (Some (said.At 0))
+      ∷ call (command.Begin false) [] (Some said.InTransaction)
       ∷ call (command.Export 0) (some_of 1 1 2) (Some (said.Exported 0 0 0 0))
       ∷ call command.Commit (some_of 1 3 1) (Some (said.Committed None))
       ∷ call (command.Get 0 (pos 5)) [] (Some said.NoTransaction)
@@ -160,6 +162,19 @@ worker_done = record {
   );
 }
 
+-- the session's calls keep no reads, nor do the worker's
+kept : (who : Who) → Kept None (calls_of who (round ∷ []))
+kept (Session session) = go (1 == session)
+  where
+    go : (b : Bool) → Kept None (flat_map (λ share. share.calls) (cond b (session_share ∷ []) []))
+    go true = (refl, (refl, (refl, (refl, (refl, tt)))))
+    go false = tt
+kept (Worker worker) = go (1 == worker)
+  where
+    go : (b : Bool) → Kept None (flat_map (λ share. share.calls) (cond b (worker_share ∷ []) []))
+    go true = (refl, (refl, (refl, (refl, (refl, (refl, (refl, tt)))))))
+    go false = tt
+
 pub returns : goal.returns
 returns c = record {
   lawful = (
@@ -190,7 +205,7 @@ returns c = record {
                     (tt, (omega arith, omega arith)),
                     granted,
                     (
-                      (((omega arith, omega arith), has_nothing _), omega arith),
+                      (((omega arith, omega arith), has_nothing _), (omega arith, tt)),
                       granted,
                       (
                         (tt, (omega arith, omega arith)),
@@ -241,5 +256,6 @@ returns c = record {
     },
     tt,
   );
+  kept = kept;
   printed = refl;
 }

@@ -1,4 +1,4 @@
-use Rattle.std.proofs.Common.{◌≡◌, ◌<◌, ℕ, not, true, List, Option, Err, is_some, refl, ap, subst, ◌∙◌, arith}
+use Rattle.std.proofs.Common.{◌≡◌, ◌<◌, ℕ, not, true, List, Option, Err, is_some, refl, ap, subst, ◌∙◌, arith, sym}
 use Rattle.std.specs.Io.KnownBytes.{Appends}
 use Rattle.arrow_spec.specs.Streams.{end_word, schema_message}
 use Rattle.cell_model.specs.declared.column.Column.{Column}
@@ -16,7 +16,11 @@ use Rattle.std.proofs.lemmas.List.Sums.{count_by-le-length}
 use Rattle.store_export.proofs.Course.{Sending, block_broke, end_broke, ended, first_leaves, end_leaves, more_few, piece_is_now, piece_leaves, same_fault, schema_broke, sending_count, sending_more, sending_starts}
 use Rattle.store_export.specs.Groups.{group_message}
 use Rattle.store_export.specs.declared.sent.Sent.{Sent}
+use Rattle.workload_spec.specs.declared.reply.Said.TheVariants as said
 use Rattle.store_export.proofs.table.send_table.Goals as goal
+use Rattle.shared_store.specs.declared.session.Session.{Session}
+use Rattle.store_export.specs.Exports.{ExportsCounted}
+use Rattle.shared_store.proofs.Open.{measures_of}
 
 pub returns-in-Err-clause-exports : goal.returns-in-Err-clause-exports
 returns-in-Err-clause-exports g c own is clean =
@@ -204,10 +208,18 @@ returns-in-Ok-finish-clause-exports g c own is clean =
     let done = c.loop-block-test.false in
     let end' = c.loop-block.auto.block-end in
     let all : c.loop-block.block ≡ blocks_of (shape_in st) c.args.table = omega (arith, blocks, done, end') in
-    ended st own c.args.table c.args.session.now c.requires.session is clean c.loop-block.session (g.W.Sink.written c.args.writer.now.sink) (g.W.Sink.written c.loop-block.writer.sink) (g.W.Sink.written c.finish.new.self.sink)
+    subst (λ (later : Session). ExportsCounted st c.args.session.now later c.args.table (said.Exported own.snapshot.number c.loop-block.sent.rows c.loop-block.sent.batches c.loop-block.sent.frozen)
+    (g.W.Sink.written c.args.writer.now.sink) (g.W.Sink.written c.finish.new.self.sink) c.args.steps.now c.loop-block.steps) (sym c.sweep.ensures)
+    (ended st own c.args.table c.args.session.now c.requires.session is clean c.requires.table c.loop-block.session (g.W.Sink.written c.args.writer.now.sink) (g.W.Sink.written c.loop-block.writer.sink) (g.W.Sink.written c.finish.new.self.sink)
     c.loop-block.sent c.args.steps.now c.loop-block.steps
     (subst (λ (k : ℕ). Sending st c.args.session.now c.loop-block.session own c.args.table k (g.W.Sink.written c.args.writer.now.sink) (g.W.Sink.written c.loop-block.writer.sink) c.loop-block.sent c.args.steps.now c.loop-block.steps) all s)
-    c.in-Ok-finish.ensures.answer.bytes
+    c.in-Ok-finish.ensures.answer.bytes)
+
+pub sweep-requires : goal.sweep-requires
+sweep-requires g c =
+    let few = (measures_of c.args.store.now c.args.session.now c.requires.session).tables in
+    let table = c.requires.table in
+    omega (arith, few, table)
 
 pub returns-in-Err-finish-clause-exports : goal.returns-in-Err-finish-clause-exports
 returns-in-Err-finish-clause-exports g c own is clean =

@@ -12,14 +12,14 @@ returns-then-not-busy-clause-answers g c =
 pub get-requires-clause-table : goal.get-requires-clause-table
 get-requires-clause-table g c =
     table_of_key (shape_in c.args.store.now).tables c.in-Get.table c.in-Get.key
-    (ap (is_command (shape_in c.args.store.now).tables) (sym c.in-Get.is) ∙ c.requires.command)
+    (ap (is_command (shape_in c.args.store.now).tables) (sym c.in-Get.is) ∙ c.requires.command.names)
 
 pub scan_uncounted-requires-clause-table : goal.scan_uncounted-requires-clause-table
 scan_uncounted-requires-clause-table g c =
     table_named (shape_in c.args.store.now).tables c.in-Scan.table
-    (ap (is_command (shape_in c.args.store.now).tables) (sym c.in-Scan.is) ∙ c.requires.command)
+    (ap (is_command (shape_in c.args.store.now).tables) (sym c.in-Scan.is) ∙ c.requires.command.names)
 
 pub delete-requires-clause-table : goal.delete-requires-clause-table
 delete-requires-clause-table g c =
     table_of_key (shape_in c.args.store.now).tables c.in-Delete.table c.in-Delete.key
-    (ap (is_command (shape_in c.args.store.now).tables) (sym c.in-Delete.is) ∙ c.requires.command)
+    (ap (is_command (shape_in c.args.store.now).tables) (sym c.in-Delete.is) ∙ c.requires.command.names)

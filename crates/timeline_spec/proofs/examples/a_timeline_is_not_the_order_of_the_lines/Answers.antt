@@ -30,13 +30,13 @@ abbrev reply_at : ℕ → ℕ → ℕ → Command → Said → Entry
 reply_at number session index asked told = record { number = number; command = asked; reply = record { round = 1; who = Session session; index = index; said = told } }
 
 abbrev first_begin : Entry
-first_begin = reply_at 1 1 1 command.Begin (said.At 0)
+first_begin = reply_at 1 1 1 (command.Begin false) (said.At 0)
 
 abbrev first_insert : Entry
 first_insert = reply_at 2 1 2 (command.Insert 0 (text_row 1 (codes "x"))) (said.ConflictSession 2)
 
 abbrev second_begin : Entry
-second_begin = reply_at 3 2 1 command.Begin (said.At 0)
+second_begin = reply_at 3 2 1 (command.Begin false) (said.At 0)
 
 abbrev second_insert : Entry
 second_insert = reply_at 4 2 2 (command.Insert 0 (text_row 1 (codes "y"))) said.Accepted
@@ -45,13 +45,13 @@ abbrev behind : IsolationMachine → ℕ → Act → IsolationMachine
 behind machine session act = (step machine (record { session = session; act = act })).1
 
 abbrev one : IsolationMachine
-one = behind opening 2 act.Begin
+one = behind opening 2 (act.Begin false)
 
 abbrev two : IsolationMachine
 two = behind one 2 (act.Insert 0 (text_row 1 (codes "y")))
 
 abbrev three : IsolationMachine
-three = behind two 1 act.Begin
+three = behind two 1 (act.Begin false)
 
 apart : (who : Who) → is_same (Session 1) who ≡ true → is_same (Session 2) who ≡ true → ⊥
 apart (Session n) a b = one_not_two n a b

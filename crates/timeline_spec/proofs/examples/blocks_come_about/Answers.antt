@@ -1,4 +1,4 @@
-use Rattle.std.proofs.Common.{◌≡◌, ℕ, ◌<◌, ◌≤◌, nat_lt, nat_le, true, pos, Some, refl, arith, inl, inr}
+use Rattle.std.proofs.Common.{◌≡◌, ℕ, ◌<◌, ◌≤◌, nat_lt, nat_le, true, false, pos, Some, refl, arith, inl, inr}
 use Rattle.std.proofs.lemmas.Bool.Decides.{nat_tests}
 use Rattle.isolation_spec.specs.Machine.{IsolationMachine, opening, step}
 use Rattle.isolation_spec.specs.Store.{Answered, Freezing, Full}
@@ -7,6 +7,30 @@ use Rattle.isolation_spec.specs.declared.command.Act.TheVariants as act
 use Rattle.isolation_spec.specs.declared.command.Answer.TheVariants as answer
 use Rattle.outcome_spec.specs.Samples.{key_row}
 use Rattle.timeline_spec.proofs.examples.blocks_come_about.Goals as goal
+use Rattle.std.specs.Prelude.{Option, None}
+use Rattle.std.proofs.Common.{sym, subst, ap, ◌∙◌, [], ◌∷◌}
+use Rattle.isolation_spec.specs.Contents.{WriteSet}
+use Rattle.isolation_spec.specs.Machine.{Transaction, transaction_of}
+use Rattle.isolation_spec.specs.Reads.{ReadSet}
+use Rattle.isolation_spec.specs.Checked.{step_with, stale_read}
+use Rattle.isolation_spec.specs.declared.read.Read.{Read}
+use Rattle.isolation_spec.specs.declared.command.Answer.{Answer}
+use Rattle.std.specs.Prelude.{option_and_then}
+
+unread_writes : (machine : IsolationMachine) (t : Transaction) (own : WriteSet) → stale_read machine t own None ≡ None
+unread_writes machine t [] = refl
+unread_writes machine t (first ∷ rest) = refl
+
+unread_found : (machine : IsolationMachine) (found : Option Transaction) → option_and_then (λ (t : Transaction). stale_read machine t t.own None) found ≡ None
+unread_found machine None = refl
+unread_found machine (Some t) = unread_writes machine t t.own
+
+-- a commit that hands in no reads is the machine's
+plain_commit : (machine : IsolationMachine) (session : ℕ) (reads : Option ReadSet) (told : Answer × IsolationMachine) → reads ≡ None
+    → step machine (record { session = session; act = act.Commit }) ≡ told → step_with machine reads (record { session = session; act = act.Commit }) ≡ told
+plain_commit machine session reads told none same =
+    subst (λ (r : Option ReadSet). step_with machine r (record { session = session; act = act.Commit }) ≡ told) (sym none)
+    (ap (λ (s : Option (Read × ℕ)). elim s [ Some stale ↦ (answer.Stale stale.0 stale.1, machine) | None ↦ step machine (record { session = session; act = act.Commit }) ]) (unread_found machine (transaction_of session machine)) ∙ same)
 
 at_most : (a b : ℕ) → nat_le a b ≡ true → a ≤ b
 at_most a b h = grind (arith, nat_tests, h)
@@ -19,7 +43,7 @@ abbrev behind : IsolationMachine → Act → IsolationMachine
 behind machine act = (step machine (record { session = 1; act = act })).1
 
 abbrev after_0 : IsolationMachine
-after_0 = behind opening act.Begin
+after_0 = behind opening (act.Begin false)
 
 abbrev after_1 : IsolationMachine
 after_1 = behind after_0 (act.Insert 0 (key_row 1))
@@ -49,7 +73,7 @@ abbrev after_9 : IsolationMachine
 after_9 = behind after_8 act.Commit
 
 abbrev after_10 : IsolationMachine
-after_10 = behind after_9 act.Begin
+after_10 = behind after_9 (act.Begin false)
 
 abbrev after_11 : IsolationMachine
 after_11 = behind after_10 (act.Delete 0 (pos 3))
@@ -167,7 +191,7 @@ returns c = (
                     tt,
                     (
                       after_9,
-                      record { outcome = Answered (answer.Committed (Some 1)); tells = refl; allows = refl },
+                      record { outcome = Answered (answer.Committed (Some 1)); tells = refl; allows = plain_commit after_8 1 _ _ refl refl },
                       tt,
                       (
                         after_9,
@@ -207,7 +231,7 @@ returns c = (
                                         tt,
                                         (
                                           after_12,
-                                          record { outcome = Answered (answer.Committed (Some 2)); tells = refl; allows = refl },
+                                          record { outcome = Answered (answer.Committed (Some 2)); tells = refl; allows = plain_commit after_11 1 _ _ refl refl },
                                           tt,
                                           (
                                             after_12,

@@ -8,8 +8,8 @@ use Rattle.output_read.specs.Kept.{entries_of, entry_of}
 use Rattle.outcome_counts.specs.Asked.{peak_before}
 use Rattle.outcome_counts.specs.BlockMarks.{starts_in}
 use Rattle.outcome_counts.proofs.Peaks.{peaks-before}
-use Rattle.outcome_judge.specs.Writers.{number_told, numbers_of}
-use Rattle.outcome_judge.specs.HistoryKept.{key_cmp, place_in}
+use Rattle.outcome_judge.specs.Writers.{number_told, numbers_at}
+use Rattle.outcome_judge.specs.Targets.{target_cmp}
 use Rattle.outcome_judge.proofs.commits.Heights.highest_before.Goals as goal
 
 pub peak_before-requires : goal.peak_before-requires
@@ -19,7 +19,7 @@ pub returns : goal.returns
 returns c = λ none.
     let replies = c.args.replies.now in
     let entries = entries_of replies in
-    let value = number_told entries (numbers_of entries (place_in c.args.of)) in
+    let value = number_told entries (numbers_at entries c.args.of) in
     c.peak_before.ensures ∙ ap (λ (peaks : List Peak). peak_before peaks c.args.at c.args.stretch.now) c.at.ensures
-    ∙ peaks-before value replies c.args.at c.args.stretch.now c.requires.asked (marks_at key_cmp c.args.self.now.peaks c.args.of)
-    (subst (λ (n : ℕ). ArePeaks value (starts_in entries) entries n (marks_at key_cmp c.args.self.now.peaks c.args.of)) (length-map replies entry_of) (c.requires.written.peaks c.args.of)) none
+    ∙ peaks-before value replies c.args.at c.args.stretch.now c.requires.asked (marks_at target_cmp c.args.self.now.peaks c.args.of)
+    (subst (λ (n : ℕ). ArePeaks value (starts_in entries) entries n (marks_at target_cmp c.args.self.now.peaks c.args.of)) (length-map replies entry_of) (c.requires.written.peaks c.args.of)) none

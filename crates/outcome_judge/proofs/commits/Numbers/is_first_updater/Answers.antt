@@ -1,26 +1,17 @@
-use Rattle.std.proofs.Common.{◌∙◌, ℕ, Option, true, ap, sym, subst, nat_le}
-use Rattle.std.specs.List.Sorted.{IsNonDecreasing}
-use Rattle.std.specs.Option.{option_map_or}
-use Rattle.mark_index.specs.Marks.{count_below}
+use Rattle.std.proofs.Common.{◌∙◌, ℕ, List, ap}
 use Rattle.output_read.specs.Kept.{entries_of}
-use Rattle.outcome_judge.specs.Writers.{count_up_to, numbers_of}
+use Rattle.outcome_judge.specs.Conflicts.{is_first}
 use Rattle.outcome_judge.specs.HistoryKept.{place_in}
+use Rattle.outcome_judge.specs.Writers.{numbers_at}
+use Rattle.outcome_judge.specs.declared.keys.Target.{Target}
+use Rattle.outcome_judge.proofs.Targets.{row-numbers}
 use Rattle.outcome_judge.proofs.Updating.{first-updater}
 use Rattle.outcome_judge.proofs.commits.Numbers.is_first_updater.Goals as goal
 
-pub count_below-requires : goal.count_below-requires
-count_below-requires c = subst IsNonDecreasing (sym c.at-numbers.ensures) (c.requires.rise c.args.of)
-
-pub count_up_to-requires : goal.count_up_to-requires
-count_up_to-requires c = subst IsNonDecreasing (sym c.at-numbers.ensures) (c.requires.rise c.args.of)
-
-pub returns-in-Some : goal.returns-in-Some
-returns-in-Some c = λ tables span told.
+pub returns : goal.returns
+returns c = λ tables span told.
     let entries = entries_of c.args.replies.now in
-    let number : ℕ = c.in-Some.number in
-    let ns = numbers_of entries (place_in c.args.of) in
-    let same = c.at-numbers.ensures ∙ c.requires.numbers c.args.of in
-    ap (λ (n : ℕ). nat_le n c.count_up_to.result) (c.count_below.ensures ∙ ap (count_below number) same)
-    ∙ ap (nat_le (count_below number ns)) (c.count_up_to.ensures ∙ ap (count_up_to c.args.t.snapshot) same)
-    ∙ ap (λ (o : Option ℕ). option_map_or (λ n. nat_le (count_below n ns) (count_up_to c.args.t.snapshot ns)) o true) (sym c.in-Some.is)
+    c.is_first.ensures
+    ∙ ap (λ (of : Target). is_first c.args.t (numbers_at entries of)) c.row_target.ensures
+    ∙ ap (λ (ns : List ℕ). is_first c.args.t ns) (row-numbers entries (place_in c.args.of))
     ∙ first-updater tables entries span (place_in c.args.of) c.args.t told

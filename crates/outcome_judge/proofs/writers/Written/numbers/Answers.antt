@@ -1,12 +1,11 @@
 use Rattle.std.proofs.Common.{◌≡◌, ◌∙◌, ◌<◌, ◌≤◌, ◌+◌, ℕ, Bool, List, nat_lt, ap, sym, subst, arith}
 use Rattle.std.specs.List.{list_all}
 use Rattle.std.specs.List.Sorted.{IsNonDecreasing}
-use Rattle.isolation_spec.specs.Machine.{writes_place}
 use Rattle.mark_index.specs.Lists.{marks_at, with_mark}
 use Rattle.output_read.specs.Kept.{entries_of}
 use Rattle.outcome_spec.specs.Runs.{commit_count, committed_writes, transactions_of}
-use Rattle.outcome_judge.specs.HistoryKept.{key_cmp, place_in}
-use Rattle.outcome_judge.specs.declared.keys.RowKey.{RowKey}
+use Rattle.outcome_judge.specs.Targets.{target_cmp, wrote}
+use Rattle.outcome_judge.specs.declared.keys.Target.{Target}
 use Rattle.outcome_judge.specs.Writers.{AreNumbers}
 use Rattle.outcome_judge.proofs.Numbering.{numbers-below, numbers-next, numbers-rise}
 use Rattle.outcome_judge.proofs.writers.Written.numbers.Goals as goal
@@ -28,14 +27,14 @@ loop-at-preserved c =
     let test : at < c.args.count = c.loop-at-test.true in
     let is : c.args.count ≡ commit_count entries = c.requires.count in
     let inside : at < commit_count entries = omega (arith, test, is) in
-    let wrote : RowKey → Bool = λ of. writes_place (place_in of) (committed_writes entries (transactions_of entries) (at + 1)) in
+    let did : Target → Bool = λ of. wrote of (committed_writes entries (transactions_of entries) (at + 1)) in
     record {
       numbers = λ of.
-          c.in_ok-note_commit.ensures of ∙ ap (λ (ns : List ℕ). with_mark (wrote of) (at + 1) ns) (c.loop-at.invariant.numbers of) ∙ sym (numbers-next entries at (place_in of) inside);
+          c.in_ok-note_commit.ensures of ∙ ap (λ (ns : List ℕ). with_mark (did of) (at + 1) ns) (c.loop-at.invariant.numbers of) ∙ sym (numbers-next entries at of inside);
       rise = λ of. subst IsNonDecreasing (sym (c.in_ok-note_commit.ensures of))
-          (numbers-rise (wrote of) (at + 1) (marks_at key_cmp c.loop-at.numbers of) (c.loop-at.invariant.rise of) (c.loop-at.invariant.below of));
+          (numbers-rise (did of) (at + 1) (marks_at target_cmp c.loop-at.numbers of) (c.loop-at.invariant.rise of) (c.loop-at.invariant.below of));
       below = λ of. ap (list_all (λ (number : ℕ). nat_lt number (at + 1 + 1))) (c.in_ok-note_commit.ensures of)
-          ∙ numbers-below (wrote of) (at + 1) (marks_at key_cmp c.loop-at.numbers of) (c.loop-at.invariant.below of);
+          ∙ numbers-below (did of) (at + 1) (marks_at target_cmp c.loop-at.numbers of) (c.loop-at.invariant.below of);
     }
 
 pub returns : goal.returns

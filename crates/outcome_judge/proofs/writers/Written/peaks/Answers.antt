@@ -9,7 +9,7 @@ use Rattle.output_read.specs.Kept.{entries_of, entry_of}
 use Rattle.output_read.specs.declared.kept.KeptReply.{KeptReply}
 use Rattle.outcome_counts.specs.BlockMarks.{starts_in}
 use Rattle.outcome_counts.proofs.Starts.{at-place, kept-at, starts-are}
-use Rattle.outcome_judge.specs.HistoryKept.{key_cmp}
+use Rattle.outcome_judge.specs.Targets.{target_cmp}
 use Rattle.outcome_judge.specs.Writers.{value_at}
 use Rattle.outcome_judge.proofs.writers.Written.peaks.Goals as goal
 
@@ -35,7 +35,7 @@ loop-place-preserved c = λ of.
     let at = kept-at replies place reply inside (get_or_default replies place some_reply reply inside) in
     let value : ℕ = value_at entries of (entry_of reply) in
     peaks-next (value_at entries of) (starts_in entries) entries at.front (entry_of reply) at.rest place at.whole at.far (starts-are entries c.requires.written.output.rises)
-    (marks_at key_cmp c.loop-place.peaks of) (marks_at key_cmp c.note_line.new.peaks of) (c.loop-place.invariant of) (nat_lt 0 value)
+    (marks_at target_cmp c.loop-place.peaks of) (marks_at target_cmp c.note_line.new.peaks of) (c.loop-place.invariant of) (nat_lt 0 value)
     (λ none. grind (arith, nat_tests, none)) (c.in_ok-note_line.ensures some_reply of)
 
 pub returns : goal.returns
@@ -43,4 +43,4 @@ returns c =
     let high : c.loop-place.place ≤ length c.args.replies.now = c.loop-place.auto.place-end in
     let past : length c.args.replies.now ≤ c.loop-place.place = c.loop-place-test.false in
     let end : c.loop-place.place ≡ length c.args.replies.now = omega (arith, high, past) in
-    λ of. subst (λ (n : ℕ). ArePeaks (value_at (entries_of c.args.replies.now) of) (starts_in (entries_of c.args.replies.now)) (entries_of c.args.replies.now) n (marks_at key_cmp c.loop-place.peaks of)) end (c.loop-place.invariant of)
+    λ of. subst (λ (n : ℕ). ArePeaks (value_at (entries_of c.args.replies.now) of) (starts_in (entries_of c.args.replies.now)) (entries_of c.args.replies.now) n (marks_at target_cmp c.loop-place.peaks of)) end (c.loop-place.invariant of)

@@ -11,6 +11,7 @@ use Rattle.store_laws.specs.Laws.{IsOfSession, TellsLine}
 use Rattle.workload_spec.specs.declared.command.Command.TheVariants as command
 use Rattle.workload_spec.specs.declared.reply.Said.TheVariants as said
 use Rattle.shared_store.specs.Making.{Makes}
+use Rattle.shared_store.specs.Reads.{ReadsFit}
 use Rattle.shared_store.specs.Store.{own_of, shape_in}
 use Rattle.shared_store.specs.declared.session.Session.{Session}
 use Rattle.shared_store.proofs.Calls.{one_event, own_stands, told_always}
@@ -34,9 +35,10 @@ returns g c =
     let mine : IsOfSession s.session c.ending-event.result = inl (ap session_of c.ending-event.ensures ∙ ap Some owns.0) in
     let m = subst (λ (e : CoreEvent). Makes c.args.self.now s.session s.pass.seat c.make_at_desk.new.pass.seat c.make_at_desk.new.pass.hands (own_of s) e c.make_at_desk.result) c.ending-event.ensures
     (c.make_at_desk.ensures s.session (own_of s) c.requires.session.stands mine) in
-    let new : Session = record { pass = c.make_at_desk.new.pass; session = s.session; snapshot = None; writes = s.writes } in
-    let both = one_event c.args.self.now s new command.Abort (event.Abort t) c.make_at_desk.result said.Aborted c.requires.session refl m refl refl
-    (ap (refusal_of command.Abort) c.own_all-own.ensures) (λ made. ap (λ (o : Option OwnTransaction). events_of (shape_in c.args.self.now) o s.session command.Abort made) c.own_all-own.ensures)
+    let new : Session = record { pass = c.make_at_desk.new.pass; session = s.session; snapshot = None; writes = s.writes; reads = c.forget.new.self } in
+    let both = one_event c.args.self.now s new command.Abort (event.Abort t) c.make_at_desk.result said.Aborted c.requires.session refl m refl refl c.forget.ensures
+    (subst (ReadsFit (shape_in c.args.self.now)) (sym c.forget.ensures) tt)
+    (ap (refusal_of command.Abort) c.own_all-own.ensures) (λ made. ap (λ (o : Option OwnTransaction). events_of (shape_in c.args.self.now) o s.reads s.session command.Abort made) c.own_all-own.ensures)
     (subst (λ (r : CoreReply). TellsLine (own_of s) command.Abort r said.Aborted) (sym c.in-Aborted.is) refl) in
     let count = m.count in
     record {

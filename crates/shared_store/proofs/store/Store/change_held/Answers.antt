@@ -1,14 +1,10 @@
-use Rattle.std.proofs.Common.{◌≡◌, Bool, true, false, refl, sym, ap, subst, ◌∙◌, arith}
-use mathlib.Core.Logic.{inr}
+use Rattle.std.proofs.Common.{◌≡◌, Bool, true, false, refl, sym, ap, ◌∙◌, arith}
 use Rattle.engine_core.proofs.Asked.{thawed_where}
-use Rattle.event_spec.specs.declared.event.Event.TheVariants as event
 use Rattle.event_spec.specs.declared.reply.Reply.TheVariants as reply
-use Rattle.event_spec.specs.Effects.{CoreEvent}
 use Rattle.event_spec.specs.Replies.{CoreReply}
 use Rattle.run_spec.specs.Calls.{is_memory}
-use Rattle.store_laws.specs.Laws.{IsOfSession}
 use Rattle.store_laws.specs.Own.{parts_after}
-use Rattle.shared_store.specs.Making.{IsFew, MakesHeld, MayMakeHeld, parts_seen}
+use Rattle.shared_store.specs.Making.{IsFew, parts_seen}
 use Rattle.shared_store.specs.Store.{shape_in}
 use Rattle.shared_store.proofs.Changed.{agrees_here, covered_still, made_alone, made_both, made_none, may_thaw, may_write, row_here, thawed_now}
 use Rattle.shared_store.proofs.Made.{memory_is}

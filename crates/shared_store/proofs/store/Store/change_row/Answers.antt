@@ -12,6 +12,7 @@ use Rattle.shared_store.proofs.Changed.{change_few, changed_call, changed_sessio
 use Rattle.shared_store.proofs.Wrote.{settled_own}
 use Rattle.shared_store.proofs.store.Store.change_row.Given.{Over}
 use Rattle.shared_store.proofs.store.Store.change_row.Goals.{In-Err, In-Ok}
+use Rattle.shared_store.proofs.ReadSets.{write_reads}
 use Rattle.shared_store.proofs.store.Store.change_row.Goals as goal
 
 -- The session made the change.
@@ -22,11 +23,11 @@ changes g c = let s = c.args.session.now in c.in-Ok.ensures.made s.session (own_
 
 -- Without memory the session is as it was.
 is_same : (g : Over) (c : In-Err g)
-    → ◌≡◌ {A = Session} (record { pass = c.change_write.new.pass; session = c.args.session.now.session; snapshot = c.args.session.now.snapshot; writes = c.change_write.new.writes }) c.args.session.now
+    → ◌≡◌ {A = Session} (record { pass = c.change_write.new.pass; session = c.args.session.now.session; snapshot = c.args.session.now.snapshot; writes = c.change_write.new.writes; reads = c.args.session.now.reads }) c.args.session.now
 is_same g c =
     let s = c.args.session.now in
-    subst (λ p. ◌≡◌ {A = Session} (record { pass = p; session = s.session; snapshot = s.snapshot; writes = c.change_write.new.writes }) s) (sym c.in-Err.ensures.none)
-    (subst (λ (w : PlaceMap ℕ). ◌≡◌ {A = Session} (record { pass = s.pass; session = s.session; snapshot = s.snapshot; writes = w }) s) (sym c.in-Err.ensures.kept) refl)
+    subst (λ p. ◌≡◌ {A = Session} (record { pass = p; session = s.session; snapshot = s.snapshot; writes = c.change_write.new.writes; reads = s.reads }) s) (sym c.in-Err.ensures.none)
+    (subst (λ (w : PlaceMap ℕ). ◌≡◌ {A = Session} (record { pass = s.pass; session = s.session; snapshot = s.snapshot; writes = w; reads = s.reads }) s) (sym c.in-Err.ensures.kept) refl)
 
 pub answer_of-requires : goal.answer_of-requires
 answer_of-requires g c = (changes g (goal.at.answer_of-requires g c).In-Ok).change.replies
@@ -35,16 +36,17 @@ pub returns-in-Ok-clause-session : goal.returns-in-Ok-clause-session
 returns-in-Ok-clause-session g c =
     let s = c.args.session.now in
     let told = c.in-Ok.told in
-    let new : Session = record { pass = c.change_write.new.pass; session = s.session; snapshot = s.snapshot; writes = c.change_write.new.writes } in
+    let new : Session = record { pass = c.change_write.new.pass; session = s.session; snapshot = s.snapshot; writes = c.change_write.new.writes; reads = s.reads } in
     changed_session c.args.self.now s new c.args.place c.args.event told (changes g (goal.at.returns-in-Ok-clause-session g c).In-Ok) refl
-    (settled_own s.session s.writes c.change_write.new.writes c.args.place told s.snapshot c.in-Ok.ensures.writes ∙ sym (c.requires.change.behind told))
+    (settled_own s.session s.writes c.change_write.new.writes c.args.place told s.snapshot c.in-Ok.ensures.writes ∙ sym (c.requires.change.behind told)) c.requires.session.fits
 
 pub returns-in-Ok-clause-answers : goal.returns-in-Ok-clause-answers
 returns-in-Ok-clause-answers g c asked by =
     let s = c.args.session.now in
-    let new : Session = record { pass = c.change_write.new.pass; session = s.session; snapshot = s.snapshot; writes = c.change_write.new.writes } in
+    let new : Session = record { pass = c.change_write.new.pass; session = s.session; snapshot = s.snapshot; writes = c.change_write.new.writes; reads = s.reads } in
     changed_call c.args.self.now s new c.args.place c.args.event c.in-Ok.told asked (written_told c.args.place.table c.answer_of.result) c.requires.session
     (changes g (goal.at.returns-in-Ok-clause-answers g c).In-Ok) by (c.answer_of.ensures.tells c.args.place.table)
+    (sym (write_reads s.reads asked c.args.place.table c.answer_of.result))
 
 pub returns-in-Err-clause-session : goal.returns-in-Err-clause-session
 returns-in-Err-clause-session g c = subst (IsSession c.args.self.now) (sym (is_same g (goal.at.returns-in-Err-clause-session g c).In-Err)) c.requires.session
@@ -59,7 +61,7 @@ returns-in-Err-clause-answers g c asked by =
 pub returns-in-Ok-clause-writes : goal.returns-in-Ok-clause-writes
 returns-in-Ok-clause-writes g c change is =
     let s = c.args.session.now in
-    let new : Session = record { pass = c.change_write.new.pass; session = s.session; snapshot = s.snapshot; writes = c.change_write.new.writes } in
+    let new : Session = record { pass = c.change_write.new.pass; session = s.session; snapshot = s.snapshot; writes = c.change_write.new.writes; reads = s.reads } in
     change_answered c.args.self.now s new c.args.place change c.in-Ok.told c.answer_of.result refl (λ busy. busy) c.answer_of.ensures.accepted
     ((changes g (goal.at.returns-in-Ok-clause-writes g c).In-Ok).change.writes change is)
 

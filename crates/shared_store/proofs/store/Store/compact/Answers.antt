@@ -3,7 +3,7 @@ use Rattle.workload_spec.specs.declared.command.Command.TheVariants.{Compact}
 use Rattle.workload_spec.specs.declared.reply.Said.{Said}
 use Rattle.run_spec.specs.Handed.{own_in}
 use Rattle.run_spec.specs.Opened.{own_after}
-use Rattle.shared_store.specs.Store.{Answers, seen, shape_in}
+use Rattle.shared_store.specs.Store.{Answers, reads_of, seen, shape_in}
 use Rattle.shared_store.proofs.Compacted.{compacted, moves_few, moves_session, uncompacted}
 use Rattle.shared_store.proofs.Stays.{call_leaves, compact_asks}
 use Rattle.shared_store.proofs.store.Store.compact.Goals as goal
@@ -38,11 +38,11 @@ returns-in_err-moves-clause-leaves g c =
     let st = c.args.self.now in
     let s = c.args.session.now in
     call_leaves st s c.plan_table.new.session (Compact c.args.table) _ c.requires.session c.in_err-moves.ensures.session c.in_err-moves.ensures.same c.in_err-moves.ensures.plans
-    (λ made. compact_asks (shape_in st) (own_after (own_in (shape_in st) s.session (seen s))) s.session made c.args.table)
+    (λ made. compact_asks (shape_in st) (own_after (own_in (shape_in st) s.session (seen s))) (reads_of s) s.session made c.args.table)
 
 pub returns-clause-leaves : goal.returns-clause-leaves
 returns-clause-leaves g c =
     let st = c.args.self.now in
     let s = c.args.session.now in
     call_leaves st s c.move_rows.new.session (Compact c.args.table) _ c.requires.session (returns-clause-session g c) (returns-clause-same g c) (returns-clause-answers g c)
-    (λ made. compact_asks (shape_in st) (own_after (own_in (shape_in st) s.session (seen s))) s.session made c.args.table)
+    (λ made. compact_asks (shape_in st) (own_after (own_in (shape_in st) s.session (seen s))) (reads_of s) s.session made c.args.table)

@@ -1,6 +1,5 @@
-use Rattle.std.proofs.Common.{◌≡◌, sym, ap, subst, ◌∙◌, refl}
+use Rattle.std.proofs.Common.{refl}
 use Rattle.hall_steps.specs.Hall.{IsPass, Looks}
-use Rattle.shared_store.specs.Store.{shape_in}
 use Rattle.shared_store.specs.declared.session.Session.{Session}
 use Rattle.shared_store.proofs.Ending.{lend_ended}
 use Rattle.shared_store.proofs.Shown.{by_hall, by_laws}
@@ -17,8 +16,8 @@ returns c =
     let s = c.args.session.now in
     let t = c.look.new.pass in
     let u = c.leave.new.pass in
-    let new : Session = record { pass = u; session = s.session; snapshot = s.snapshot; writes = s.writes } in
+    let new : Session = record { pass = u; session = s.session; snapshot = s.snapshot; writes = s.writes; reads = s.reads } in
     let there = by_laws (λ M w. IsPass M w.id t.seat t.hands) c.self.inside.hall st c.self.invariant c.self.view_is c.look.ensures.pass in
     let looks = by_laws (λ M w. Looks M s.pass.seat t.seat) c.self.inside.hall st c.self.invariant c.self.view_is c.look.ensures.seen in
     let gone = by_laws (λ M w. IsPass M w.id u.seat u.hands) c.self.inside.hall st c.self.invariant c.self.view_is c.leave.ensures.pass in
-    lend_ended st s new c.args.lend t.seat t.hands c.requires.session there looks c.look.ensures.hand gone c.leave.ensures.view c.leave.ensures.hand refl refl c.look.ensures.taken c.look.ensures.looked
+    lend_ended st s new c.args.lend t.seat t.hands c.requires.session there looks c.look.ensures.hand gone c.leave.ensures.view c.leave.ensures.hand refl refl refl c.look.ensures.taken c.look.ensures.looked

@@ -25,6 +25,7 @@ use Rattle.shared_store.proofs.Full.{found_full}
 use Rattle.shared_store.proofs.Open.{busy_of, inserts_row, shut_of}
 use Rattle.shared_store.proofs.store.Store.insert.Given.{Over}
 use Rattle.shared_store.proofs.store.Store.insert.Goals.{After-answer_of, After-new-event, In-Err, In-Ok}
+use Rattle.shared_store.proofs.ReadSets.{write_reads}
 use Rattle.shared_store.proofs.store.Store.insert.Goals as goal
 
 -- The insert of a row by one who has this open.
@@ -76,9 +77,9 @@ replies g c m =
 answered : (g : Over) (c : After-answer_of g)
     → Makes c.args.self.now c.args.session.now.session c.args.session.now.pass.seat c.make_write.new.pass.seat c.make_write.new.pass.hands (own_of c.args.session.now)
     (inserting (own_open c.args.session.now c.requires.busy).0 c.args.table c.args.row) c.in-Ok.told
-    → IsSession c.args.self.now (record { pass = c.make_write.new.pass; session = c.args.session.now.session; snapshot = c.args.session.now.snapshot; writes = c.make_write.new.writes })
+    → IsSession c.args.self.now (record { pass = c.make_write.new.pass; session = c.args.session.now.session; snapshot = c.args.session.now.snapshot; writes = c.make_write.new.writes; reads = c.args.session.now.reads })
     × Answers c.args.self.now c.args.session.now
-    (record { pass = c.make_write.new.pass; session = c.args.session.now.session; snapshot = c.args.session.now.snapshot; writes = c.make_write.new.writes })
+    (record { pass = c.make_write.new.pass; session = c.args.session.now.session; snapshot = c.args.session.now.snapshot; writes = c.make_write.new.writes; reads = c.args.session.now.reads })
     (command.Insert c.args.table c.args.row) (written_told c.args.table c.answer_of.result)
 answered g c m =
     let st = c.args.self.now in
@@ -87,20 +88,21 @@ answered g c m =
     let asked = command.Insert c.args.table c.args.row in
     let told = c.in-Ok.told in
     let line = written_told c.args.table c.answer_of.result in
-    let new : Session = record { pass = c.make_write.new.pass; session = s.session; snapshot = s.snapshot; writes = c.make_write.new.writes } in
+    let new : Session = record { pass = c.make_write.new.pass; session = s.session; snapshot = s.snapshot; writes = c.make_write.new.writes; reads = s.reads } in
     let wrote : c.make_write.new.writes ≡ settled s.writes (place_of c.args.table c.args.row) told = c.in-Ok.ensures.writes ∙ ap (λ p. settled s.writes p told) c.place_in-place.ensures.place in
     one_event st s new asked (inserting o.0 c.args.table c.args.row) told line c.requires.session refl m refl
     (settled_own s.session s.writes c.make_write.new.writes (place_of c.args.table c.args.row) told s.snapshot wrote)
-    (ap (refusal_of asked) o.1) (λ made. ap (λ (x : Option OwnTransaction). events_of (shape_in st) x s.session asked made) o.1)
+    (sym (write_reads s.reads asked c.args.table c.answer_of.result)) c.requires.session.fits
+    (ap (refusal_of asked) o.1) (λ made. ap (λ (x : Option OwnTransaction). events_of (shape_in st) x s.reads s.session asked made) o.1)
     (tells_write (own_of s) asked c.args.table told line refl refl (c.answer_of.ensures.tells c.args.table))
 
 -- Without memory the session is as it was.
 is_same : (g : Over) (c : In-Err g)
-    → ◌≡◌ {A = Session} (record { pass = c.make_write.new.pass; session = c.args.session.now.session; snapshot = c.args.session.now.snapshot; writes = c.make_write.new.writes }) c.args.session.now
+    → ◌≡◌ {A = Session} (record { pass = c.make_write.new.pass; session = c.args.session.now.session; snapshot = c.args.session.now.snapshot; writes = c.make_write.new.writes; reads = c.args.session.now.reads }) c.args.session.now
 is_same g c =
     let s = c.args.session.now in
-    subst (λ p. ◌≡◌ {A = Session} (record { pass = p; session = s.session; snapshot = s.snapshot; writes = c.make_write.new.writes }) s) (sym c.in-Err.ensures.none)
-    (subst (λ (w : PlaceMap ℕ). ◌≡◌ {A = Session} (record { pass = s.pass; session = s.session; snapshot = s.snapshot; writes = w }) s) (sym c.in-Err.ensures.kept) refl)
+    subst (λ p. ◌≡◌ {A = Session} (record { pass = p; session = s.session; snapshot = s.snapshot; writes = c.make_write.new.writes; reads = s.reads }) s) (sym c.in-Err.ensures.none)
+    (subst (λ (w : PlaceMap ℕ). ◌≡◌ {A = Session} (record { pass = s.pass; session = s.session; snapshot = s.snapshot; writes = w; reads = s.reads }) s) (sym c.in-Err.ensures.kept) refl)
 
 pub make_write-requires-clause-may : goal.make_write-requires-clause-may
 make_write-requires-clause-may g c =
@@ -146,7 +148,7 @@ returns-in-Ok-clause-writes g c =
     let at' = (goal.at.returns-in-Ok-clause-writes g c).After-new-event in
     let done = (goal.at.returns-in-Ok-clause-writes g c).In-Ok in
     let m = makes g done (is_insert g at') (mine g at') in
-    let new : Session = record { pass = c.make_write.new.pass; session = s.session; snapshot = s.snapshot; writes = c.make_write.new.writes } in
+    let new : Session = record { pass = c.make_write.new.pass; session = s.session; snapshot = s.snapshot; writes = c.make_write.new.writes; reads = s.reads } in
     inserts_row st s new (own_key c.args.table (key_of c.args.row) o.0) c.args.table c.args.row c.in-Ok.told c.answer_of.result c.requires.session
     (answered g (goal.at.returns-in-Ok-clause-writes g c).After-answer_of m).0 refl
     (own_stands st s o.0 c.requires.session o.1).0 m.makes (busy_of new (shut_of s c.requires.busy)) (replies g done m) c.answer_of.ensures.accepted
@@ -164,7 +166,7 @@ returns-in-Ok-clause-full g c inserts is =
     let o = own_open s c.requires.busy in
     let at' = (goal.at.returns-in-Ok-clause-full g c).After-new-event in
     let m = makes g (goal.at.returns-in-Ok-clause-full g c).In-Ok (is_insert g at') (mine g at') in
-    let new : Session = record { pass = c.make_write.new.pass; session = s.session; snapshot = s.snapshot; writes = c.make_write.new.writes } in
+    let new : Session = record { pass = c.make_write.new.pass; session = s.session; snapshot = s.snapshot; writes = c.make_write.new.writes; reads = s.reads } in
     found_full st s new (own_key c.args.table (key_of c.args.row) o.0) c.args.table c.args.row c.in-Ok.told inserts c.place_in-place.ensures.measures
     (answered g (goal.at.returns-in-Ok-clause-full g c).After-answer_of m).0 m (sym c.answer_of.ensures.fault ∙ ap fault_answered is)
 

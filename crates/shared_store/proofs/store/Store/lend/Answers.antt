@@ -1,11 +1,8 @@
-use Rattle.std.proofs.Common.{◌≡◌, List, None, Option, refl, sym, subst, ◌∙◌}
+use Rattle.std.proofs.Common.{List, None, Option, refl, sym, subst, ◌∙◌}
 use Rattle.event_spec.specs.Effects.{CoreEvent}
 use Rattle.event_spec.specs.Parts.{CorePart}
-use Rattle.hall_steps.specs.Hall.{first_of}
 use Rattle.shared_store.specs.Alone.{HoldsAlone}
 use Rattle.shared_store.specs.Freezing.{imaging}
-use Rattle.shared_store.specs.Lending.{LendsHeld}
-use Rattle.shared_store.specs.Making.{Takes}
 use Rattle.shared_store.specs.Store.{own_of, shape_in}
 use Rattle.shared_store.specs.declared.session.Session.{Session}
 use Rattle.shared_store.proofs.Alone.{image_on_body}
@@ -45,10 +42,10 @@ returns g c =
     let s = c.args.session.now in
     let t = c.take_body-body.new.pass in
     let u = c.lend_held-lent.new.pass in
-    let new : Session = record { pass = c.give_alone.new.pass; session = s.session; snapshot = s.snapshot; writes = s.writes } in
+    let new : Session = record { pass = c.give_alone.new.pass; session = s.session; snapshot = s.snapshot; writes = s.writes; reads = s.reads } in
     let e : CoreEvent = imaging c.args.table c.args.block None in
     let takes = c.take_body-body.ensures.takes e (image_on_body (shape_in st) c.args.table c.args.block None) s.session (own_of s) c.requires.session.stands in
     let held = c.lend_held-lent.ensures s.session (own_of s) takes.within in
     let gives = c.give_alone.ensures s.session (own_of s) held.within in
-    lent_whole st s new c.args.table c.args.block e t.seat u.seat t.hands u.hands c.lend_held-lent.result takes held gives refl refl
+    lent_whole st s new c.args.table c.args.block e t.seat u.seat t.hands u.hands c.lend_held-lent.result takes held gives refl refl (refl, c.requires.session.fits)
     c.take_body-body.result c.take_body-body.ensures.number c.take_body-body.ensures.took

@@ -1,9 +1,8 @@
-use Rattle.std.proofs.Common.{◌≡◌, ◌<◌, true, false, cond, List, Option, None, Some, sym, ap, subst, ◌∙◌, true≢false, arith}
+use Rattle.std.proofs.Common.{◌≡◌, true, cond, List, Option, None, Some, sym, ap, subst, ◌∙◌}
 use Rattle.std.specs.Prelude.{slice_get}
 use Rattle.block_spec.specs.Bodies.{is_imaged, rows_of}
 use Rattle.block_spec.specs.Slots.{Row}
 use Rattle.core_laws.specs.Frames.Shards.{CoreHolds}
-use Rattle.core_laws.specs.Words.Words.{word_of}
 use Rattle.core_parts.specs.Hands.{Has}
 use Rattle.event_spec.specs.Parts.{BodyOf, CorePart, Parts, Shape, body_at}
 use Rattle.hall_rule.specs.EventLog.{replay}
@@ -11,7 +10,7 @@ use Rattle.hall_rule.specs.Hands.{Agrees}
 use Rattle.hall_steps.specs.Hall.{IsPass, first_of}
 use Rattle.store_laws.specs.Logs.{store_meaning}
 use Rattle.shared_store.specs.Making.{parts_seen}
-use Rattle.shared_store.specs.Store.{HandsView, StoreView, shape_in}
+use Rattle.shared_store.specs.Store.{shape_in}
 use Rattle.shared_store.proofs.Hands.{agrees_with}
 use Rattle.shared_store.proofs.Imagings.{body_here}
 use Rattle.shared_store.proofs.Latched.{part_there}

@@ -21,7 +21,7 @@ loop-block-init g c =
       keeping = keeping_starts st (beside_observe c.args.table) 0 s c.requires.session refl;
       made = omega arith;
       few = omega arith;
-      observes = sweeps_rested st (at_all_blocks (shape_in st) observing) HaveTurned s s [] 0 (sweeps_no_more st (at_all_blocks (shape_in st) observing) HaveTurned s) c.requires.session.stands.within;
+      observes = sweeps_rested st (at_all_blocks (shape_in st) observing) HaveTurned s s [] 0 (sweeps_no_more st (at_all_blocks (shape_in st) observing) HaveTurned s) c.requires.session.stands.within c.requires.session.fits;
     }
 
 pub loop-block-preserved : goal.loop-block-preserved
@@ -57,14 +57,14 @@ returns-clause-observes g c =
     let st = c.args.self.now in
     let t = c.args.table in
     let s = c.loop-block.session in
-    let new : Session = record { pass = c.give_back.new.pass; session = s.session; snapshot = s.snapshot; writes = s.writes } in
+    let new : Session = record { pass = c.give_back.new.pass; session = s.session; snapshot = s.snapshot; writes = s.writes; reads = s.reads } in
     let blocks : c.blocks-block-end.result ≡ blocks_of (shape_in st) t = c.blocks-block-end.ensures.blocks ∙ ap (λ (sh : Shape). blocks_of sh t) (c.shape.ensures ∙ c.self.invariant.shape ∙ ap shape_in c.self.view_is) in
     let done = c.loop-block-test.false in
     let end' = c.loop-block.auto.block-end in
     let all : c.loop-block.block ≡ blocks_of (shape_in st) t = omega (arith, blocks, done, end') in
     sweeps_given st (at_all_blocks (shape_in st) observing) HaveTurned c.args.session.now s new (map (observing t) (below (blocks_of (shape_in st) t))) c.loop-block.turned
     (subst (λ n. ObservesMore st c.args.session.now (rested s) (map (observing t) (below n)) c.loop-block.turned) all c.loop-block.invariant.observes)
-    refl refl (c.give_back.ensures s.session (own_of s) c.loop-block.invariant.keeping.within)
+    refl refl (refl, c.loop-block.invariant.keeping.fits) (c.give_back.ensures s.session (own_of s) c.loop-block.invariant.keeping.within)
 
 pub returns-clause-made : goal.returns-clause-made
 returns-clause-made g c =

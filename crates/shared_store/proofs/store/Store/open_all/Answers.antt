@@ -30,8 +30,8 @@ returns c =
     let some = c.requires.some in
     let loop = c.loop-opened in
     let has : HasSessions now 1 loop.pass.seat loop.pass.hands = subst (λ (n : ℕ). HasSessions now n loop.pass.seat loop.pass.hands) (omega (arith, end', stop, some)) loop.invariant.has in
-    let first : Session = record { pass = loop.pass; session = 1; snapshot = None; writes = [] } in
-    let new : IsNewSession now 1 first = new_session now 1 first (first_is_new now loop.pass.seat loop.pass.hands has) refl refl in
+    let first : Session = record { pass = loop.pass; session = 1; snapshot = None; writes = []; reads = None } in
+    let new : IsNewSession now 1 first = new_session now 1 first (first_is_new now loop.pass.seat loop.pass.hands has) refl refl refl in
     let last : IsNewSession now (count - loop.opened) c.in_ok-first.first = subst (λ (n : ℕ). IsNewSession now n c.in_ok-first.first) (omega (arith, end', stop, some))
     (subst (IsNewSession now 1) (sym c.in_ok-first.ensures) new) in
     let row : IsRowDown now count count (loop.row.items ++ c.in_ok-first.first ∷ []) =

@@ -43,7 +43,7 @@ returns-clause-new c =
     let last = c.split-last in
     let old = c.args.pass.now in
     let more = c.requires.more in
-    let opened : Session = record { pass = last.result; session = c.args.number; snapshot = None; writes = [] } in
+    let opened : Session = record { pass = last.result; session = c.args.number; snapshot = None; writes = []; reads = None } in
     ok_is (IsNewSession c.args.self.now c.args.number) c.new.result opened c.new.ensures
     (new_session c.args.self.now c.args.number opened
     (given_is_new c.args.self.now c.args.number (c.args.number - 1) old.seat last.new.pass.seat last.result.seat old.hands last.new.pass.hands last.result.hands
@@ -53,4 +53,4 @@ returns-clause-new c =
     (by_laws (λ M w. IsPass M w.id last.result.seat last.result.hands) c.self.inside.hall c.args.self.now c.self.invariant c.self.view_is last.ensures.given)
     (by_laws (λ M w. IsNew M old.seat.me.0 last.result.seat.me.0 (greatest old.seat.me.0.sessions ∷ [])) c.self.inside.hall c.args.self.now c.self.invariant c.self.view_is last.ensures.new)
     last.ensures.empty)
-    refl refl)
+    refl refl refl)

@@ -24,7 +24,7 @@ loop-block-init g c =
       oldest = c.requires.oldest;
       made = omega arith;
       few = omega arith;
-      prunes = sweeps_rested st asked (HaveDropped c.args.oldest) s s [] 0 (sweeps_no_more st asked (HaveDropped c.args.oldest) s) c.requires.session.stands.within;
+      prunes = sweeps_rested st asked (HaveDropped c.args.oldest) s s [] 0 (sweeps_no_more st asked (HaveDropped c.args.oldest) s) c.requires.session.stands.within c.requires.session.fits;
     }
 
 pub loop-block-preserved : goal.loop-block-preserved
@@ -60,14 +60,14 @@ returns-clause-prunes g c =
     let st = c.args.self.now in
     let t = c.args.table in
     let s = c.loop-block.session in
-    let new : Session = record { pass = c.give_back.new.pass; session = s.session; snapshot = s.snapshot; writes = s.writes } in
+    let new : Session = record { pass = c.give_back.new.pass; session = s.session; snapshot = s.snapshot; writes = s.writes; reads = s.reads } in
     let blocks : c.blocks-block-end.result ≡ blocks_of (shape_in st) t = c.blocks-block-end.ensures.blocks ∙ ap (λ (sh : Shape). blocks_of sh t) (c.shape.ensures ∙ c.self.invariant.shape ∙ ap shape_in c.self.view_is) in
     let done = c.loop-block-test.false in
     let end' = c.loop-block.auto.block-end in
     let all : c.loop-block.block ≡ blocks_of (shape_in st) t = omega (arith, blocks, done, end') in
     sweeps_given st (asked_by (shape_in st) c.args.oldest) (HaveDropped c.args.oldest) c.args.session.now s new (map (pruning c.args.oldest t) (below (blocks_of (shape_in st) t))) c.loop-block.dropped
     (subst (λ n. PrunesMore st c.args.oldest c.args.session.now (rested s) (map (pruning c.args.oldest t) (below n)) c.loop-block.dropped) all c.loop-block.invariant.prunes)
-    refl refl (c.give_back.ensures s.session (own_of s) c.loop-block.invariant.keeping.within)
+    refl refl (refl, c.loop-block.invariant.keeping.fits) (c.give_back.ensures s.session (own_of s) c.loop-block.invariant.keeping.within)
 
 pub returns-clause-oldest : goal.returns-clause-oldest
 returns-clause-oldest g c =

@@ -1,18 +1,12 @@
-use Rattle.std.proofs.Common.{◌≡◌, ◌⊎◌, List, Option, Some, false, refl, sym, ap, subst, ◌∙◌, true≢false, arith}
+use Rattle.std.proofs.Common.{◌≡◌, ◌⊎◌, List, Some, sym, ap, subst}
 use mathlib.Core.Logic.{inl, inr}
-use Rattle.block_spec.specs.Bodies.{is_imaged}
 use Rattle.block_spec.specs.Slots.{Row}
 use Rattle.event_spec.specs.declared.event.Event.TheVariants as event
-use Rattle.event_spec.specs.declared.own.OwnTransaction.{OwnTransaction}
 use Rattle.event_spec.specs.declared.reply.Reply.TheVariants as reply
 use Rattle.event_spec.specs.Effects.{CoreEvent}
-use Rattle.event_spec.specs.Parts.{body_at}
-use Rattle.event_spec.specs.Replies.{CoreReply, rows_read}
-use Rattle.run_spec.specs.Calls.{is_memory}
+use Rattle.event_spec.specs.Replies.{CoreReply}
 use Rattle.store_laws.specs.Laws.{IsOfSession}
-use Rattle.store_laws.specs.Own.{parts_after}
 use Rattle.shared_store.specs.Making.{MakesHeld, MayMakeHeld}
-use Rattle.shared_store.specs.Store.{shape_in}
 use Rattle.shared_store.proofs.Seeing.{held_told}
 use Rattle.shared_store.proofs.store.Store.read_held.Goals as goal
 

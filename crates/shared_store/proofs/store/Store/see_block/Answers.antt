@@ -1,7 +1,5 @@
-use Rattle.std.proofs.Common.{◌≡◌, ◌≤◌, ◌+◌, Err, List, None, Option, Some, refl, sym, ap, subst, ◌∙◌}
+use Rattle.std.proofs.Common.{◌≡◌, Err, List, None, Option, Some, refl, sym, subst, ◌∙◌}
 use Rattle.std.specs.declared.alloc.AllocError.{AllocError}
-use Rattle.std.specs.Prelude.{Result}
-use Rattle.block_spec.specs.Slots.{Row}
 use Rattle.event_spec.specs.declared.event.Event.TheVariants as event
 use Rattle.event_spec.specs.declared.own.OwnTransaction.{OwnTransaction}
 use Rattle.event_spec.specs.declared.reply.Reply.TheVariants as reply
@@ -12,7 +10,7 @@ use Rattle.shared_store.specs.Alone.{HoldsAlone}
 use Rattle.shared_store.specs.Freezing.{imaging}
 use Rattle.shared_store.specs.Lending.{LendsHeld}
 use Rattle.shared_store.specs.Making.{MakesHeld}
-use Rattle.shared_store.specs.Reading.{MayReadHeld, SeesBlock}
+use Rattle.shared_store.specs.Reading.{SeesBlock}
 use Rattle.shared_store.specs.Store.{IsWithin, own_of, shape_in}
 use Rattle.shared_store.specs.declared.lending.LendFault.{LendFault}
 use Rattle.shared_store.specs.declared.session.Session.{Session}
@@ -101,11 +99,11 @@ returns-in-Ok-clause-sees g c own is =
     let s = c.args.session.now in
     let t = c.take_body-body.new.pass in
     let u = c.lend_held.new.pass in
-    let new : Session = record { pass = c.give_alone.new.pass; session = s.session; snapshot = s.snapshot; writes = s.writes } in
+    let new : Session = record { pass = c.give_alone.new.pass; session = s.session; snapshot = s.snapshot; writes = s.writes; reads = s.reads } in
     let e : CoreEvent = event.Read own c.args.table c.args.block in
     let takes = c.take_body-body.ensures.takes e (read_on_body (shape_in st) own c.args.table c.args.block) s.session (own_of s) c.requires.session.stands in
     let held = c.in-Ok.ensures s.session (own_of s) takes.within in
-    sees_lent AllocError st s new c.args.table c.args.block own t.seat u.seat t.hands u.hands is c.requires.block takes refl refl c.in-Ok.lend c.args.steps.now held
+    sees_lent AllocError st s new c.args.table c.args.block own t.seat u.seat t.hands u.hands is c.requires.block takes refl refl (refl, c.requires.session.fits) c.in-Ok.lend c.args.steps.now held
     (c.give_alone.ensures s.session (own_of s) held.within)
 
 pub returns-in-Err-Memory-clause-sees : goal.returns-in-Err-Memory-clause-sees
@@ -114,12 +112,12 @@ returns-in-Err-Memory-clause-sees g c own is =
     let s = c.args.session.now in
     let t = c.take_body-body.new.pass in
     let u = c.lend_held.new.pass in
-    let new : Session = record { pass = c.give_alone-in-Err-Memory.new.pass; session = s.session; snapshot = s.snapshot; writes = s.writes } in
+    let new : Session = record { pass = c.give_alone-in-Err-Memory.new.pass; session = s.session; snapshot = s.snapshot; writes = s.writes; reads = s.reads } in
     let e : CoreEvent = event.Read own c.args.table c.args.block in
     let takes = c.take_body-body.ensures.takes e (read_on_body (shape_in st) own c.args.table c.args.block) s.session (own_of s) c.requires.session.stands in
     let held = subst (λ (f : LendFault). LendsHeld st s.session t.seat u.seat t.hands u.hands (own_of s) c.args.table c.args.block (Err f)) c.in-Err-Memory.field-0-is
     (c.in-Err-Memory.ensures s.session (own_of s) takes.within) in
-    sees_none AllocError st s new c.args.table c.args.block own t.seat u.seat t.hands u.hands is c.requires.block takes refl refl _ c.args.steps.now held
+    sees_none AllocError st s new c.args.table c.args.block own t.seat u.seat t.hands u.hands is c.requires.block takes refl refl (refl, c.requires.session.fits) _ c.args.steps.now held
     (c.give_alone-in-Err-Memory.ensures s.session (own_of s) held.within)
 
 pub returns-in_err-read-in-Err-NotLent-clause-sees : goal.returns-in_err-read-in-Err-NotLent-clause-sees
@@ -129,7 +127,7 @@ returns-in_err-read-in-Err-NotLent-clause-sees g c own is =
     let t = c.take_body-body.new.pass in
     let u = c.lend_held.new.pass in
     let v = c.read_held-read.new.pass in
-    let new : Session = record { pass = c.give_alone-in-Err-NotLent.new.pass; session = s.session; snapshot = s.snapshot; writes = s.writes } in
+    let new : Session = record { pass = c.give_alone-in-Err-NotLent.new.pass; session = s.session; snapshot = s.snapshot; writes = s.writes; reads = s.reads } in
     let e : CoreEvent = event.Read own c.args.table c.args.block in
     let takes = c.take_body-body.ensures.takes e (read_on_body (shape_in st) own c.args.table c.args.block) s.session (own_of s) c.requires.session.stands in
     let held = subst (λ (f : LendFault). LendsHeld st s.session t.seat u.seat t.hands u.hands (own_of s) c.args.table c.args.block (Err f)) c.in-Err-NotLent.field-0-is
@@ -140,7 +138,7 @@ returns-in_err-read-in-Err-NotLent-clause-sees g c own is =
     let one = same_own c.own_all-own.result own (sym mine ∙ is) in
     let gives = c.give_alone-in-Err-NotLent.ensures s.session (own_of s) (subst (λ (o : Option OwnTransaction). IsWithin st s.session v.seat v.hands o) (sym mine) made.within) in
     sees_err AllocError (SeesBlock st s new own c.args.table c.args.block c.args.steps.now c.read_held-read.new.steps) c.from_residual.result c.from_residual.ensures.0
-    (λ memory. sees_refused AllocError st s new c.args.table c.args.block own t.seat u.seat t.hands u.hands is c.requires.block takes refl refl c.in-Err-NotLent.field-0-0 held v.seat v.hands
+    (λ memory. sees_refused AllocError st s new c.args.table c.args.block own t.seat u.seat t.hands u.hands is c.requires.block takes refl refl (refl, c.requires.session.fits) c.in-Err-NotLent.field-0-0 held v.seat v.hands
     c.args.steps.now c.read_held-read.new.steps c.read_held-read.ensures.steps memory
     (subst (λ (x : OwnTransaction). MakesHeld st s.session u.seat v.seat u.hands v.hands (own_of s) (event.Read x c.args.table c.args.block) reply.Memory) one made') gives)
   where
@@ -154,7 +152,7 @@ returns-in_ok-read-in-Err-NotLent-clause-sees g c own is =
     let t = c.take_body-body.new.pass in
     let u = c.lend_held.new.pass in
     let v = c.read_held-read.new.pass in
-    let new : Session = record { pass = c.give_alone-in-Err-NotLent.new.pass; session = s.session; snapshot = s.snapshot; writes = s.writes } in
+    let new : Session = record { pass = c.give_alone-in-Err-NotLent.new.pass; session = s.session; snapshot = s.snapshot; writes = s.writes; reads = s.reads } in
     let e : CoreEvent = event.Read own c.args.table c.args.block in
     let takes = c.take_body-body.ensures.takes e (read_on_body (shape_in st) own c.args.table c.args.block) s.session (own_of s) c.requires.session.stands in
     let held = subst (λ (f : LendFault). LendsHeld st s.session t.seat u.seat t.hands u.hands (own_of s) c.args.table c.args.block (Err f)) c.in-Err-NotLent.field-0-is
@@ -164,7 +162,7 @@ returns-in_ok-read-in-Err-NotLent-clause-sees g c own is =
     let made' = subst (λ (o : Option OwnTransaction). MakesHeld st s.session u.seat v.seat u.hands v.hands o (event.Read c.own_all-own.result c.args.table c.args.block) (reply.Rows c.in_ok-read-in-Err-NotLent.field-0)) (sym mine) made in
     let one = same_own c.own_all-own.result own (sym mine ∙ is) in
     let gives = c.give_alone-in-Err-NotLent.ensures s.session (own_of s) (subst (λ (o : Option OwnTransaction). IsWithin st s.session v.seat v.hands o) (sym mine) made.within) in
-    sees_rows AllocError st s new c.args.table c.args.block own t.seat u.seat t.hands u.hands is c.requires.block takes refl refl c.in-Err-NotLent.field-0-0 held v.seat v.hands
+    sees_rows AllocError st s new c.args.table c.args.block own t.seat u.seat t.hands u.hands is c.requires.block takes refl refl (refl, c.requires.session.fits) c.in-Err-NotLent.field-0-0 held v.seat v.hands
     c.args.steps.now c.read_held-read.new.steps c.read_held-read.ensures.steps c.in_ok-read-in-Err-NotLent.field-0
     (subst (λ (x : OwnTransaction). MakesHeld st s.session u.seat v.seat u.hands v.hands (own_of s) (event.Read x c.args.table c.args.block) (reply.Rows c.in_ok-read-in-Err-NotLent.field-0)) one made') gives
   where

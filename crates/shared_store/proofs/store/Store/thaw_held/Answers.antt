@@ -1,4 +1,4 @@
-use Rattle.std.proofs.Common.{◌≡◌, ◌+◌, List, Some, refl, sym, ap, subst, ◌∙◌, length, arith}
+use Rattle.std.proofs.Common.{◌≡◌, ◌+◌, Some, refl, sym, ap, subst, ◌∙◌}
 use mathlib.Core.Logic.{inr}
 use Rattle.std.specs.Prelude.{slice_get}
 use Rattle.core_laws.specs.Words.Words.{word_of}
@@ -6,15 +6,12 @@ use Rattle.event_spec.specs.declared.event.Event.TheVariants as event
 use Rattle.event_spec.specs.Effects.{CoreEvent}
 use Rattle.event_spec.specs.Parts.{BodyOf, CorePart, Shape, names}
 use Rattle.hall_rule.specs.Heads.{IsFrozen, head_of}
-use Rattle.hall_rule.specs.declared.view.View.{View}
-use Rattle.hall_steps.specs.Hall.{IsPass, IsPassAt, first_of}
+use Rattle.hall_steps.specs.Hall.{IsPass, IsPassAt}
 use Rattle.store_laws.specs.Laws.{IsOfSession}
 use Rattle.store_laws.specs.Logs.{store_meaning}
 use Rattle.shared_store.specs.Making.{MakesHeld, MayMakeHeld}
 use Rattle.shared_store.specs.Store.{IsWithinAt, shape_in}
 use Rattle.shared_store.proofs.Drained.{drained_made, drained_within, frozen_here, may_thaw_drained}
-use Rattle.shared_store.proofs.Latched.{part_there}
-use Rattle.shared_store.proofs.Made.{one_hand}
 use Rattle.shared_store.proofs.Shown.{by_hall, by_laws}
 use Rattle.shared_store.proofs.store.Store.thaw_held.Goals as goal
 

@@ -1,0 +1,5 @@
+pub mod Lasts
+pub mod Places
+pub mod Keys
+pub mod Newest
+pub mod Firsts

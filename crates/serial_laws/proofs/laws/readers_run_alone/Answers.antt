@@ -1,0 +1,9 @@
+use Rattle.serial_laws.specs.Alone.{ReadersRunAlone}
+use Rattle.serial_laws.proofs.Alone.{reads-alone}
+use Rattle.serial_laws.proofs.laws.readers_run_alone.Goals as goal
+
+law : ReadersRunAlone
+law script text t explained among none = reads-alone script text explained t among none
+
+pub returns : goal.returns
+returns c = law
