@@ -64,9 +64,26 @@ fn act_of(command: Command) -> Option<Act>
     match command {
         Command::Begin { checked } => Some(Act::Begin { checked }),
         Command::Scan { table } => Some(Act::Scan { table }),
-        Command::Insert { table, row } if has_key(&row) => Some(Act::Insert { table, row }),
-        Command::Update { table, row } if has_key(&row) => Some(Act::Update { table, row }),
+        Command::Insert { table, row } => {
+            if has_key(&row) {
+                Some(Act::Insert { table, row })
+            } else {
+                None
+            }
+        }
+        Command::Update { table, row } => {
+            if has_key(&row) {
+                Some(Act::Update { table, row })
+            } else {
+                None
+            }
+        }
         Command::Commit => Some(Act::Commit),
+        Command::Total {
+            low: _low,
+            high: _high,
+            ..
+        } => None,
         _ => None,
     }
 }

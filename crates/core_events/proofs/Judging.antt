@@ -7,7 +7,7 @@ use Rattle.std.proofs.lemmas.Bool.{or_left, or_right}
 use Rattle.block_layout.specs.Place.{block_of}
 use Rattle.core_events.proofs.Keys.{shard_there, slots_there}
 use Rattle.core_events.specs.Candidates.{candidates_in}
-use Rattle.core_events.specs.Stale.{HasGot, key_read, larger, newest_at}
+use Rattle.core_events.specs.Stale.{HasGot, key_read, larger, newest_at, range_read}
 use Rattle.core_laws.proofs.Events.Lists.{all_at, all_by}
 use Rattle.core_laws.proofs.Frames.Fitness.{body_touched, shard_touched}
 use Rattle.core_laws.proofs.Frames.Judged.{desk_touched}
@@ -27,7 +27,6 @@ use Rattle.event_spec.specs.Touched.{is_body_written, touched_by_got, touched_by
 use Rattle.hall_rule.specs.Hands.{Agrees}
 use Rattle.isolation_spec.specs.Contents.{PlaceMap}
 use Rattle.isolation_spec.specs.declared.place.Place.{Place}
-use Rattle.isolation_spec.specs.declared.read.KeyRange.{KeyRange}
 use Rattle.isolation_spec.specs.declared.read.Read.{Read}
 use Rattle.isolation_spec.specs.declared.read.Read.TheVariants as read
 use Rattle.isolation_spec.specs.Reads.{ReadSet, first_stale, reads_in}
@@ -166,22 +165,18 @@ by_reads own reads set some is = go own.writes some
     go [] not_none = absurd (not_none refl)
     go (w ∷ writes) not_none = is
 
--- without ranges by its keys and then its tables
-pub keys_then_tables : (sh : Shape) (s : Parts) (own : OwnTransaction) (reads : Option ReadSet) (set : ReadSet) → judged_reads own.writes reads ≡ Some set → set.ranges ≡ []
-    → stale_in sh s own reads ≡ option_or (first_stale (newest_at sh s own.snapshot) (map key_read set.places)) (first_stale (newest_at sh s own.snapshot) (map read.Table set.tables))
-keys_then_tables sh s own reads set judged none =
+-- by its keys, then its tables, and then its ranges
+pub keys_then_tables : (sh : Shape) (s : Parts) (own : OwnTransaction) (reads : Option ReadSet) (set : ReadSet) → judged_reads own.writes reads ≡ Some set
+    → stale_in sh s own reads
+    ≡ option_or (option_or (first_stale (newest_at sh s own.snapshot) (map key_read set.places)) (first_stale (newest_at sh s own.snapshot) (map read.Table set.tables)))
+    (first_stale (newest_at sh s own.snapshot) (map range_read set.ranges))
+keys_then_tables sh s own reads set judged =
     ap (option_and_then (λ set. first_stale (newest_at sh s own.snapshot) (reads_in set))) judged
-    ∙ ap (λ (ranges : List KeyRange). first_stale last_of (map key_read set.places ++ map read.Table set.tables ++ map (λ (range : KeyRange). read.Range range.table range.low range.high) ranges)) none
-    ∙ first_two last_of (map key_read set.places ++ map read.Table set.tables) []
-    ∙ or_nothing (first_stale last_of (map key_read set.places ++ map read.Table set.tables))
-    ∙ first_two last_of (map key_read set.places) (map read.Table set.tables)
+    ∙ first_two last_of (map key_read set.places ++ map read.Table set.tables) (map range_read set.ranges)
+    ∙ ap (λ o. option_or o (first_stale last_of (map range_read set.ranges))) (first_two last_of (map key_read set.places) (map read.Table set.tables))
   where
     last_of : Read → Option ℕ
     last_of = newest_at sh s own.snapshot
-
-    or_nothing : (o : Option (Read × ℕ)) → option_or o None ≡ o
-    or_nothing None = refl
-    or_nothing (Some x) = refl
 
 -- a list without length has nothing in it
 pub some_by : (own : OwnTransaction) (entries : PlaceMap ℕ) → entries ≡ own.writes → (length entries ≡ 0 → ⊥) → own.writes ≡ [] → ⊥

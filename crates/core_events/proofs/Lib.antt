@@ -16,3 +16,4 @@ pub mod Replying
 pub mod Rows
 pub mod Shares
 pub mod Frozen
+pub mod Ranging

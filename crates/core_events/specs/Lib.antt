@@ -6,3 +6,4 @@ pub mod Puts
 pub mod Reads
 pub mod Freezes
 pub mod Stale
+pub mod Ranges

@@ -7,6 +7,7 @@ use Rattle.event_spec.specs.Effects.{range_keys}
 use Rattle.event_spec.specs.Newest.{newest_of}
 use Rattle.event_spec.specs.Parts.{Parts, Shape, ShardOf, desk_at, places_at, shard_of, slot_at}
 use Rattle.isolation_spec.specs.declared.place.Place.{Place}
+use Rattle.isolation_spec.specs.declared.read.KeyRange.{KeyRange}
 use Rattle.isolation_spec.specs.declared.read.Read.{Read}
 use Rattle.isolation_spec.specs.declared.read.Read.TheVariants as read
 use Rattle.txn_desk.specs.declared.Snapshot.{Snapshot}
@@ -26,6 +27,10 @@ larger (Some number) (Some other) = Some (max number other)
 -- the read of a key that was got
 abbrev pub key_read : Place → Read
 key_read place = read.Key place.table place.key
+
+-- the read of a range
+abbrev pub range_read : KeyRange → Read
+range_read range = read.Range range.table range.low range.high
 
 -- the last commit above a snapshot that wrote into a read, by the parts
 abbrev pub newest_at : Shape → Parts → Snapshot → Read → Option ℕ

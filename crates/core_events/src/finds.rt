@@ -1,5 +1,5 @@
 //! Rows of a key.
-ghost use Rattle.std.specs.Prelude.{◌≡◌, ◌+◌, ◌≤◌, IfOk, IfSome, is_some, length};
+ghost use Rattle.std.specs.Prelude.{◌≡◌, ◌+◌, ◌≤◌, IfOk, IfSome, is_some, length, max};
 ghost use Rattle.block_spec.specs.Slots.{seen};
 ghost use Rattle.event_spec.specs.Judged.{current_place, first_at, found_by};
 ghost use Rattle.event_spec.specs.Parts.{Parts, slot_at};
@@ -70,7 +70,7 @@ pub fn found<L: Ledger>(
     requires own { IfSome own.now.written (HasSlot shape.now held.now table) }
     ensures row { IfOk result (λ row. (s : Parts) → Agrees held.now s →
         row ≡ found_by (slot_at shape.now s table) places.now own.now) }
-    ensures steps { steps.new ≤ steps.old + (length places.now + 1) }
+    ensures steps { steps.new ≤ steps.old + max 1 (length places.now) }
 {
     match own.written {
         Some(place) => seen_at(shape, held, own, table, place, steps),

@@ -1,13 +1,16 @@
 //! Why the commit of a checked transaction is refused.
-ghost use Rattle.std.specs.Prelude.{◌≡◌, All, map};
+ghost use Rattle.std.specs.Prelude.{◌≡◌, ℤ, All, map, option_to_list};
 ghost use Rattle.std.specs.List.{flat_map};
+ghost use Rattle.core_events.specs.Ranges.{HasRange, keys_in};
 ghost use Rattle.core_events.specs.Slots.{HasSlot, HasSlots};
-ghost use Rattle.core_events.specs.Stale.{HasGot, key_read, larger, newest_at};
+ghost use Rattle.core_events.specs.Stale.{HasGot, key_read, larger, newest_at, range_read};
 ghost use Rattle.core_parts.specs.Hands.{Has, MayRun};
 ghost use Rattle.event_spec.specs.declared.event.Event.TheVariants as event;
 ghost use Rattle.event_spec.specs.Effects.{stale_in};
-ghost use Rattle.event_spec.specs.Parts.{Parts, TheDesk, slot_at};
+ghost use Rattle.event_spec.specs.Lawful.{Among};
+ghost use Rattle.event_spec.specs.Parts.{Parts, ShardOf, TheDesk, slot_at};
 ghost use Rattle.hall_rule.specs.Hands.{Agrees};
+ghost use Rattle.isolation_spec.specs.Contents.{place_at};
 ghost use Rattle.isolation_spec.specs.declared.read.Read.TheVariants as read;
 ghost use Rattle.isolation_spec.specs.Reads.{first_stale};
 ghost use Rattle.txn_desk.specs.Marks.{marked_tables};
@@ -15,10 +18,10 @@ ghost use Rattle.undo_chain.specs.Conflict.{largest, numbers_above};
 
 use crate::keyed::candidates;
 use block_layout::SlotId;
-use core_parts::{CorePart, Shape, body, desk};
+use core_parts::{CorePart, Shape, body, desk, shard};
 use event_spec::{OwnReads, OwnTransaction};
 use hall_rule::Hand;
-use isolation_spec::Read;
+use isolation_spec::{KeyRange, Read};
 use txn_desk::{Snapshot, TableMarks};
 
 /// The tables of which the desk knows the last writer.
@@ -120,8 +123,82 @@ fn stale_table(
     None
 }
 
+/// The largest number of a commit above the snapshot at the candidates of a shard's keys in a range.
+fn newest_in_shard(
+    shape: &Shape,
+    held: &Hand<CorePart>,
+    snapshot: Snapshot,
+    range: &KeyRange,
+    number: u32,
+) -> Option<u64>
+    requires shard { Has shape.now held.now (ShardOf range.now.table number) }
+    requires keys { (key : ℤ) → Among key (keys_in shape.now held.now range.now number)
+        → HasGot shape.now held.now (place_at range.now.table key) }
+    ensures { (s : Parts) → Agrees held.now s → result
+        ≡ largest (flat_map (λ key. option_to_list
+        (newest_at shape.now s snapshot (read.Key range.now.table key)))
+        (keys_in shape.now held.now range.now number)) }
+{
+    let mut newest = None;
+    for key in shard(shape, held, range.table, number).keys_between(range.low, range.high) {
+        let places = candidates(shape, held, range.table, *key);
+        newest = larger(
+            newest,
+            newest_among(shape, held, snapshot, range.table, places),
+        );
+    }
+    newest
+}
+
+/// The last commit above the snapshot that wrote a key of a range.
+fn newest_in(
+    shape: &Shape,
+    held: &Hand<CorePart>,
+    snapshot: Snapshot,
+    range: &KeyRange,
+) -> Option<u64>
+    requires { HasRange shape.now held.now range.now }
+    ensures { (s : Parts) → Agrees held.now s → result
+        ≡ newest_at shape.now s snapshot (range_read range.now) }
+{
+    let mut newest = None;
+    for number in 0..8 {
+        newest = larger(
+            newest,
+            newest_in_shard(shape, held, snapshot, range, number),
+        );
+    }
+    newest
+}
+
+/// The first range of which a key was written by a commit above the snapshot, with the last such
+/// commit.
+fn stale_range(
+    shape: &Shape,
+    held: &Hand<CorePart>,
+    snapshot: Snapshot,
+    ranges: &[KeyRange],
+) -> Option<(Read, u64)>
+    requires { All (HasRange shape.now held.now) ranges.now }
+    ensures { (s : Parts) → Agrees held.now s → result
+        ≡ first_stale (newest_at shape.now s snapshot) (map range_read ranges.now) }
+{
+    for range in ranges {
+        if let Some(number) = newest_in(shape, held, snapshot, range) {
+            let read = Read::Range {
+                table: range.table,
+                low: range.low,
+                high: range.high,
+            };
+            return Some((read, number));
+        }
+    }
+    None
+}
+
 /// Why a commit is refused: of its transaction's reads the first that a later commit wrote into,
-/// with the number of the last such commit. Keys go before tables. Without writes none is stale.
+/// with the number of the last such commit. Keys go before tables, and tables before ranges. Without
+/// writes none is stale.
 pub fn stale_read(
     shape: &Shape,
     held: &Hand<CorePart>,
@@ -137,8 +214,11 @@ pub fn stale_read(
     let Some(reads) = reads else {
         return None;
     };
-    match stale_key(shape, held, own.snapshot, reads) {
-        Some(stale) => Some(stale),
-        None => stale_table(shape, held, own.snapshot, reads.tables()),
+    if let Some(stale) = stale_key(shape, held, own.snapshot, reads) {
+        return Some(stale);
     }
+    if let Some(stale) = stale_table(shape, held, own.snapshot, reads.tables()) {
+        return Some(stale);
+    }
+    stale_range(shape, held, own.snapshot, reads.ranges())
 }

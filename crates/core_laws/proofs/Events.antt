@@ -5,10 +5,12 @@ pub mod Lists
 pub mod Naming
 pub mod Slots
 pub mod Still
+pub mod Puts
 pub mod Owners
 pub mod Plain
 pub mod Judging
 pub mod Served
+pub mod Ranged
 pub mod Added
 pub mod Inserted
 pub mod Changed

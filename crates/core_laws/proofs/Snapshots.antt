@@ -1,3 +1,4 @@
 pub mod BlockReads
 pub mod MoveSights
 pub mod Sights
+pub mod RangeKeys

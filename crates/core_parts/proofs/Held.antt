@@ -1,17 +1,19 @@
 -- What a hand tells of a key's candidates and of a table's next place.
-use Rattle.std.proofs.Common.{◌≡◌, ℕ, ◌≤◌, ℤ, [], Option, None, Some, length, unwrap_or, refl, sym, ap, ◌∙◌, arith}
+use Rattle.std.proofs.Common.{◌≡◌, ℕ, ◌≤◌, ℤ, List, [], ◌∷◌, filter, map, Option, None, Some, length, unwrap_or, refl, sym, ap, ◌∙◌, arith}
 use Rattle.std.specs.Prelude.{option_map, slice_get}
 use Rattle.std.specs.FinMap as finite
 use Rattle.std.specs.Ordering.{int_cmp}
 use Rattle.std.proofs.lemmas.Option.{slice_get_past}
+use Rattle.cell_model.specs.Values.{is_between}
 use Rattle.core_parts.specs.Hands.{Held, in_hand}
 use Rattle.core_parts.proofs.Numbering.{got_within}
 use Rattle.core_parts.proofs.Placing.{held_among, held_at, lies, named_once}
 use Rattle.core_parts.proofs.Telling.{table_of_head, table_of_shard}
 use Rattle.event_spec.specs.Lawful.{Among}
-use Rattle.event_spec.specs.Parts.{CorePart, Name, HeadOf, ShardOf, Shape, head_from, names, shard_from, shard_of, slots_of}
+use Rattle.event_spec.specs.Parts.{CorePart, Name, HeadOf, ShardOf, Shape, head_from, names, shard_from, slots_of}
 use Rattle.event_spec.specs.Judged.{next_place}
-use Rattle.event_spec.specs.Touched.{held_next, held_places}
+use Rattle.event_spec.specs.Newest.{keys_within}
+use Rattle.event_spec.specs.Touched.{held_next}
 use Rattle.key_index.specs.Candidates.{candidates_of}
 
 -- Where a hand has no part of a name, what it has there is none.
@@ -30,29 +32,30 @@ away sh hand w never = none_held sh hand w (λ p e. never (held_among (names sh)
 beyond : (sh : Shape) (hand : Held) (w : Name) (k : ℕ) → slice_get (names sh) k ≡ Some w → length hand ≤ k → in_hand sh hand w ≡ None
 beyond sh hand w k at high = none_held sh hand w (λ p e. let less = got_within hand k (Some p) (lies sh hand w k p at e) in absurd (omega (arith, high, less)))
 
--- A shard that is not there has no candidates of any key.
-no_places : (key : ℤ) → candidates_of (shard_from None) key ≡ []
+-- A shard that is not there has no candidates of any key,
+pub no_places : (key : ℤ) → candidates_of (shard_from None) key ≡ []
 no_places key = ap (λ o. unwrap_or o []) (finite.get-empty int_cmp key)
 
-module _ (sh : Shape) (hand : Held) (t : ℕ) (key : ℤ) where
-  -- a key of a table that there is not has no candidates
-  pub no_table : length sh.tables ≤ t → [] ≡ held_places sh (in_hand sh hand) t key
-  no_table high = sym (ap (λ o. candidates_of (shard_from o) key)
-      (away sh hand (ShardOf t (shard_of key)) (λ a. let has = (table_of_shard sh t (shard_of key) a).0 in absurd (omega (arith, has, high)))) ∙ no_places key)
+-- and no key.
+pub no_keys : (low high : ℤ) → keys_within low high (shard_from None) ≡ []
+no_keys low high = ap (λ (es : List (ℤ × List ℕ)). filter (is_between low high) (map (λ e. e.0) es)) (none (finite.entries (finite.empty {X = List ℕ} {R = int_cmp})) (sym (finite.len-entries (finite.empty {X = List ℕ} {R = int_cmp})) ∙ finite.len-empty int_cmp (List ℕ)))
+  where
+    none : (es : List (ℤ × List ℕ)) → length es ≡ 0 → es ≡ []
+    none [] is = refl
+    none (e ∷ es) is = absurd (omega (arith, is))
 
-  -- nor one whose shard lies beyond the hand
-  pub no_room : (k : ℕ) → slice_get (names sh) k ≡ Some (ShardOf t (shard_of key)) → length hand ≤ k → [] ≡ held_places sh (in_hand sh hand) t key
-  no_room k at high = sym (ap (λ o. candidates_of (shard_from o) key) (beyond sh hand (ShardOf t (shard_of key)) k at high) ∙ no_places key)
+module _ (sh : Shape) (hand : Held) (t i : ℕ) where
+  -- a table that there is not has no shards
+  pub no_table : length sh.tables ≤ t → shard_from (in_hand sh hand (ShardOf t i)) ≡ shard_from None
+  no_table high = ap shard_from (away sh hand (ShardOf t i) (λ a. let has = (table_of_shard sh t i a).0 in absurd (omega (arith, has, high))))
 
-  -- the candidates are those of the shard in the hand
-  pub shard_held : (k : ℕ) (o : Option CorePart) → slice_get (names sh) k ≡ Some (ShardOf t (shard_of key)) → slice_get hand k ≡ Some o
-      → held_places sh (in_hand sh hand) t key ≡ candidates_of (shard_from o) key
-  shard_held k o at is = ap (λ o. candidates_of (shard_from o) key) (held_at (names sh) hand (ShardOf t (shard_of key)) k o (named_once sh) at is)
+  -- nor is there one that lies beyond the hand
+  pub no_room : (k : ℕ) → slice_get (names sh) k ≡ Some (ShardOf t i) → length hand ≤ k → shard_from (in_hand sh hand (ShardOf t i)) ≡ shard_from None
+  no_room k at high = ap shard_from (beyond sh hand (ShardOf t i) k at high)
 
-  -- where the hand lacks the shard the key has no candidates
-  pub none_there : (k : ℕ) (o : Option CorePart) → slice_get (names sh) k ≡ Some (ShardOf t (shard_of key)) → slice_get hand k ≡ Some o → shard_from o ≡ shard_from None
-      → [] ≡ held_places sh (in_hand sh hand) t key
-  none_there k o at is none = sym (shard_held k o at is ∙ ap (λ x. candidates_of x key) none ∙ no_places key)
+  -- a shard is what lies in its place
+  pub shard_there : (k : ℕ) (o : Option CorePart) → slice_get (names sh) k ≡ Some (ShardOf t i) → slice_get hand k ≡ Some o → shard_from (in_hand sh hand (ShardOf t i)) ≡ shard_from o
+  shard_there k o at is = ap shard_from (held_at (names sh) hand (ShardOf t i) k o (named_once sh) at is)
 
 module _ (sh : Shape) (hand : Held) (t : ℕ) where
   -- the next place of a table that there is not is that of no head

@@ -1,7 +1,7 @@
 -- The names that an event touches are those of the list.
 use Rattle.std.proofs.Common.{◌≡◌, ℕ, zero, suc, ◌+◌, ◌<◌, ◌≤◌, ℤ, Bool, true, false, ◌&&◌, ◌||◌, ◌==◌, List, [], ◌∷◌, ◌++◌, map, Option, None, Some, length, refl, sym, ap, ◌∙◌, arith}
 use mathlib.Core.Logic.{inl, inr}
-use Rattle.std.specs.Prelude.{IfSome, option_to_list, slice_get}
+use Rattle.std.specs.Prelude.{option_to_list, slice_get}
 use Rattle.std.specs.List.{flat_map, list_any, range_with_len}
 use Rattle.std.specs.Option.{option_or}
 use Rattle.std.proofs.lemmas.Bool.Decides.{nat_tests}
@@ -11,7 +11,7 @@ use Rattle.block_layout.specs.Place.{block_of}
 use Rattle.core_parts.specs.Hands.{Held, in_hand}
 use Rattle.core_parts.proofs.Telling.{table_of_head, table_of_shard}
 use Rattle.core_parts.specs.Keyed.{IsKeyed}
-use Rattle.core_parts.specs.Touched.{bodies_at, bodies_written, names_got, names_on_key, names_read, shards_in, shards_moved, shards_written, sources_moved, targets_moved, touched_names}
+use Rattle.core_parts.specs.Touched.{bodies_at, bodies_on, bodies_written, names_got, names_on_key, names_ranged, names_read, shards_in, shards_moved, shards_written, sources_moved, targets_moved, touched_names}
 use Rattle.event_spec.specs.declared.event.Event.TheVariants as event
 use Rattle.event_spec.specs.declared.event.MovePair.{MovePair}
 use Rattle.event_spec.specs.Effects.{CoreEvent}
@@ -19,9 +19,10 @@ use Rattle.event_spec.specs.Lawful.{Among}
 use Rattle.event_spec.specs.Parts.{Name, HeadOf, ShardOf, BodyOf, TheDesk, Shape, below, names, same_name, shard_of, tables_of}
 use Rattle.event_spec.specs.Newest.{judged_reads}
 use Rattle.isolation_spec.specs.declared.place.Place.{Place}
+use Rattle.isolation_spec.specs.declared.read.KeyRange.{KeyRange}
 use Rattle.isolation_spec.specs.Reads.{ReadSet}
-use Rattle.event_spec.specs.Touched.{held_next, held_places, is_any_head, is_body_moved, is_body_of, is_body_written, is_shard_in, is_shard_moved, is_shard_written, passes_test, touched, touched_by_got, touched_by_key, touched_by_range, touched_by_reads, touching}
-use Rattle.isolation_spec.specs.Contents.{PlaceMap, key_of}
+use Rattle.event_spec.specs.Touched.{held_keys, held_next, held_places, is_any_head, is_body_moved, is_body_of, is_body_written, is_shard_in, is_shard_moved, is_shard_written, passes_test, touched, touched_by_got, touched_by_key, touched_by_range, touched_by_reads, touching}
+use Rattle.isolation_spec.specs.Contents.{PlaceMap, at_place, key_of, place_at}
 
 -- whether one of the names is this one
 abbrev any : List Name → Name → Bool
@@ -194,18 +195,46 @@ module _ (sh : Shape) (hand : Held) (name : Name) (a : Among name (names sh)) wh
       ∙ both (any (names_got sh (in_hand sh hand) p) name) (touched_by_got sh (in_hand sh hand) p name) (any (flat_map (names_got sh (in_hand sh hand)) ps) name) (list_any (λ place. touched_by_got sh (in_hand sh hand) place name) ps)
       (on_key p.table p.key None) (any_got ps)
 
-  -- So it is of reads without ranges.
-  any_read : (o : Option ReadSet) → IfSome o (λ set. set.ranges ≡ []) → any (names_read sh (in_hand sh hand) o) name ≡ touched_by_reads sh (in_hand sh hand) o name
-  any_read None keyed = refl
-  any_read (Some set) keyed =
-      any_got set.places
-      ∙ sym (ap (λ ranges. list_any (λ place. touched_by_got sh (in_hand sh hand) place name) set.places || list_any (λ range. touched_by_range sh (in_hand sh hand) range name) ranges) keyed
-      ∙ or_false (list_any (λ place. touched_by_got sh (in_hand sh hand) place name) set.places))
+  -- A name is one of a range where the range touches it.
+  any_keyed : (writes : PlaceMap ℕ) (t : ℕ) (keys : List ℤ) → any (flat_map (bodies_on sh (in_hand sh hand) writes t) keys) name
+      ≡ list_any (λ key. is_body_of t (option_to_list (at_place writes (place_at t key)) ++ held_places sh (in_hand sh hand) t key) name) keys
+  any_keyed writes t [] = refl
+  any_keyed writes t (key ∷ keys) =
+      let own = option_to_list (at_place writes (place_at t key)) in
+      let qs = held_places sh (in_hand sh hand) t key in
+      any_two (bodies_on sh (in_hand sh hand) writes t key) (flat_map (bodies_on sh (in_hand sh hand) writes t) keys) name
+      ∙ both (any (bodies_on sh (in_hand sh hand) writes t key) name) (is_body_of t (own ++ qs) name) (any (flat_map (bodies_on sh (in_hand sh hand) writes t) keys) name)
+      (list_any (λ key. is_body_of t (option_to_list (at_place writes (place_at t key)) ++ held_places sh (in_hand sh hand) t key) name) keys)
+      (any_two (bodies_at t own) (bodies_at t qs) name
+      ∙ both (any (bodies_at t own) name) (is_body_of t own name) (any (bodies_at t qs) name) (is_body_of t qs name) (any_bodies t own name) (any_bodies t qs name) ∙ body_two t own qs name)
+      (any_keyed writes t keys)
 
-  -- What a commit is judged by has no range where what it hands in has none.
-  judged_keyed : (writes : PlaceMap ℕ) (reads : Option ReadSet) → IfSome reads (λ set. set.ranges ≡ []) → IfSome (judged_reads writes reads) (λ set. set.ranges ≡ [])
-  judged_keyed [] reads keyed = tt
-  judged_keyed (w ∷ writes) reads keyed = keyed
+  any_ranged : (writes : PlaceMap ℕ) (range : KeyRange) → any (names_ranged sh (in_hand sh hand) writes range) name
+      ≡ (is_shard_in range.table name
+      || list_any (λ key. is_body_of range.table (option_to_list (at_place writes (place_at range.table key)) ++ held_places sh (in_hand sh hand) range.table key) name) (held_keys sh (in_hand sh hand) range.table range.low range.high))
+  any_ranged writes range =
+      let keys = held_keys sh (in_hand sh hand) range.table range.low range.high in
+      any_two (shards_in range.table) (flat_map (bodies_on sh (in_hand sh hand) writes range.table) keys) name
+      ∙ both (any (shards_in range.table) name) (is_shard_in range.table name) (any (flat_map (bodies_on sh (in_hand sh hand) writes range.table) keys) name)
+      (list_any (λ key. is_body_of range.table (option_to_list (at_place writes (place_at range.table key)) ++ held_places sh (in_hand sh hand) range.table key) name) keys)
+      (any_shards sh range.table name a) (any_keyed writes range.table keys)
+
+  any_ranges : (ranges : List KeyRange) → any (flat_map (names_ranged sh (in_hand sh hand) []) ranges) name ≡ list_any (λ range. touched_by_range sh (in_hand sh hand) range name) ranges
+  any_ranges [] = refl
+  any_ranges (range ∷ ranges) =
+      any_two (names_ranged sh (in_hand sh hand) [] range) (flat_map (names_ranged sh (in_hand sh hand) []) ranges) name
+      ∙ both (any (names_ranged sh (in_hand sh hand) [] range) name) (touched_by_range sh (in_hand sh hand) range name) (any (flat_map (names_ranged sh (in_hand sh hand) []) ranges) name)
+      (list_any (λ range. touched_by_range sh (in_hand sh hand) range name) ranges)
+      (any_ranged [] range) (any_ranges ranges)
+
+  -- So it is of reads.
+  any_read : (o : Option ReadSet) → any (names_read sh (in_hand sh hand) o) name ≡ touched_by_reads sh (in_hand sh hand) o name
+  any_read None = refl
+  any_read (Some set) =
+      any_two (flat_map (names_got sh (in_hand sh hand)) set.places) (flat_map (names_ranged sh (in_hand sh hand) []) set.ranges) name
+      ∙ both (any (flat_map (names_got sh (in_hand sh hand)) set.places) name) (list_any (λ place. touched_by_got sh (in_hand sh hand) place name) set.places)
+      (any (flat_map (names_ranged sh (in_hand sh hand) []) set.ranges) name) (list_any (λ range. touched_by_range sh (in_hand sh hand) range name) set.ranges)
+      (any_got set.places) (any_ranges set.ranges)
 
   -- An event touches a name where it is among those that are listed.
   pub touched_any : (e : CoreEvent) → IsKeyed e → any (touched_names sh (in_hand sh hand) e) name ≡ touched sh (in_hand sh hand) e name
@@ -217,13 +246,14 @@ module _ (sh : Shape) (hand : Held) (name : Name) (a : Among name (names sh)) wh
   touched_any (event.Update own t row) keyed = on_key t (key_of row) own.written
   touched_any (event.Delete own t key) keyed = on_key t key own.written
   touched_any (event.Read own t b) keyed = or_false (same_name (BodyOf t b) name)
+  touched_any (event.Range own t low high) keyed = any_ranged own.writes (record { table = t; low = low; high = high })
   touched_any (event.Commit own reads) keyed =
       then_desk (bodies_written own.writes ++ names_read sh (in_hand sh hand) (judged_reads own.writes reads))
       (is_body_written own.writes name || touched_by_reads sh (in_hand sh hand) (judged_reads own.writes reads) name)
       (any_two (bodies_written own.writes) (names_read sh (in_hand sh hand) (judged_reads own.writes reads)) name
       ∙ both (any (bodies_written own.writes) name) (is_body_written own.writes name) (any (names_read sh (in_hand sh hand) (judged_reads own.writes reads)) name)
       (touched_by_reads sh (in_hand sh hand) (judged_reads own.writes reads) name)
-      (any_written own.writes name) (any_read (judged_reads own.writes reads) (judged_keyed own.writes reads keyed)))
+      (any_written own.writes name) (any_read (judged_reads own.writes reads)))
   touched_any (event.Abort own) keyed =
       then_desk (map HeadOf (tables_of sh) ++ shards_written own.writes ++ bodies_written own.writes) ((is_any_head name || is_shard_written own.writes name) || is_body_written own.writes name)
       (any_two (map HeadOf (tables_of sh) ++ shards_written own.writes) (bodies_written own.writes) name

@@ -1,10 +1,12 @@
 -- Offered numbers of names, and the least of them.
-use Rattle.std.proofs.Common.{◌≡◌, ◌≢◌, ◌⊎◌, ℕ, zero, suc, ◌+◌, ◌<◌, ◌≤◌, Bool, true, false, cond, ◌&&◌, ◌||◌, List, [], ◌∷◌, ◌++◌, map, Option, None, Some, length, nat_le, nat_lt, refl, sym, ap, subst, ◌∙◌, arith}
+use Rattle.std.proofs.Common.{◌≡◌, ◌≢◌, ◌⊎◌, ℕ, zero, suc, ◌+◌, ◌<◌, ◌≤◌, ℤ, Bool, true, false, cond, ◌&&◌, ◌||◌, List, [], ◌∷◌, ◌++◌, map, Option, None, Some, get_or, length, take, nat_le, nat_lt, refl, sym, ap, subst, ◌∙◌, arith}
 use mathlib.Core.Logic.{inl, inr}
 use Rattle.std.specs.Prelude.{fold, slice_get}
-use Rattle.std.specs.List.{list_any, range_with_len}
+use Rattle.std.specs.List.{flat_map, list_any, range_with_len}
 use Rattle.std.specs.Option.{option_map_or}
 use Rattle.std.proofs.lemmas.Bool.Decides.{nat_tests}
+use Rattle.std.proofs.lemmas.Grind.{flat_map-append}
+use Rattle.std.proofs.lemmas.List.{append-nil, map-append, take_more}
 use Rattle.std.proofs.lemmas.List.Sums.{fold-append}
 use Rattle.std.proofs.lemmas.Bool.{or_from, or_right, or_left}
 use Rattle.core_parts.proofs.Placing.{named_once, number_less}
@@ -229,13 +231,44 @@ offered_behind {X = X} sh f xs x least old new was step =
     ∙ sym (fold-append g least xs (x ∷ []))
     ∙ sym (offered_mapped sh f (xs ++ x ∷ []) least)
 
+-- the numbers below one more
+range_next : (from n : ℕ) → range_with_len from (n + 1) ≡ range_with_len from n ++ (from + n) ∷ []
+range_next from zero = ap (λ k. k ∷ []) (let e : from ≡ from + 0 = omega arith in e)
+range_next from (suc n) = ap (range_with_len from) (let e : suc n + 1 ≡ suc (n + 1) = omega arith in e) ∙ ap (λ (ks : List ℕ). from ∷ ks) (range_next (from + 1) n ∙ ap (λ k. range_with_len (from + 1) n ++ k ∷ []) (let e : from + 1 + n ≡ from + suc n = omega arith in e))
+
+below_next : (n : ℕ) → below (n + 1) ≡ below n ++ n ∷ []
+below_next n = range_next 0 n ∙ ap (λ k. below n ++ k ∷ []) (let e : 0 + n ≡ n = omega arith in e)
+
 -- one more of a range
 pub offered_next : (sh : Shape) (f : ℕ → Name) (n : ℕ) (least old new : Least)
     → old ≡ offered_all sh (map f (below n)) least → new ≡ offered_name sh old (f n) → new ≡ offered_all sh (map f (below (n + 1))) least
 offered_next sh f n least old new was step =
     offered_behind sh f (below n) n least old new was step
-    ∙ ap (λ ns. offered_all sh (map f ns) least) (ap (λ k. below n ++ k ∷ []) (let e : n ≡ 0 + n = omega arith in e) ∙ sym (range_next 0 n))
+    ∙ ap (λ ns. offered_all sh (map f ns) least) (sym (below_next n))
+
+-- the names of one more
+pub offered_more : {X Y : Type 0} (sh : Shape) (f : Y → List Name) (g : X → Y) (xs : List X) (x : X) (least old new : Least)
+    → old ≡ offered_all sh (flat_map f (map g xs)) least → new ≡ offered_all sh (f (g x)) old
+    → new ≡ offered_all sh (flat_map f (map g (xs ++ x ∷ []))) least
+offered_more sh f g xs x least old new was step =
+    offered_twice sh (flat_map f (map g xs)) (f (g x)) least old new was step
+    ∙ ap (λ ns. offered_all sh ns least) (sym (ap (flat_map f) (map-append g xs (x ∷ [])) ∙ flat_map-append f (map g xs) (g x ∷ []) ∙ ap (λ ns. flat_map f (map g xs) ++ ns) (append-nil (f (g x)))))
+
+-- the names of one more item of a slice
+pub offered_part : {X : Type 0} (sh : Shape) (f : X → List Name) (xs : List X) (i : ℕ) (d : X) (least old new : Least) → i < length xs
+    → old ≡ offered_all sh (flat_map f (take i xs)) least → new ≡ offered_all sh (f (get_or xs i d)) old
+    → new ≡ offered_all sh (flat_map f (take (i + 1) xs)) least
+offered_part sh f xs i d least old new less was step =
+    offered_twice sh (flat_map f (take i xs)) (f (get_or xs i d)) least old new was step
+    ∙ ap (λ ns. offered_all sh ns least) (sym (ap (flat_map f) (take_more xs i d less) ∙ flat_map-append f (take i xs) (get_or xs i d ∷ []) ∙ ap (λ ns. flat_map f (take i xs) ++ ns) (append-nil (f (get_or xs i d)))))
+
+-- the names of the keys of one more shard
+pub offered_keys : (sh : Shape) (f : ℤ → List Name) (g : ℕ → List ℤ) (n : ℕ) (least old new : Least)
+    → old ≡ offered_all sh (flat_map f (flat_map g (below n))) least → new ≡ offered_all sh (flat_map f (g n)) old
+    → new ≡ offered_all sh (flat_map f (flat_map g (below (n + 1)))) least
+offered_keys sh f g n least old new was step =
+    offered_twice sh (flat_map f (flat_map g (below n))) (flat_map f (g n)) least old new was step
+    ∙ ap (λ ns. offered_all sh ns least) (sym (ap (flat_map f) more ∙ flat_map-append f (flat_map g (below n)) (g n)))
   where
-    range_next : (from n : ℕ) → range_with_len from (n + 1) ≡ range_with_len from n ++ (from + n) ∷ []
-    range_next from zero = ap (λ k. k ∷ []) (let e : from ≡ from + 0 = omega arith in e)
-    range_next from (suc n) = ap (range_with_len from) (let e : suc n + 1 ≡ suc (n + 1) = omega arith in e) ∙ ap (λ (ks : List ℕ). from ∷ ks) (range_next (from + 1) n ∙ ap (λ k. range_with_len (from + 1) n ++ k ∷ []) (let e : from + 1 + n ≡ from + suc n = omega arith in e))
+    more : flat_map g (below (n + 1)) ≡ flat_map g (below n) ++ g n
+    more = ap (flat_map g) (below_next n) ∙ flat_map-append g (below n) (n ∷ []) ∙ ap (λ ks. flat_map g (below n) ++ ks) (append-nil (g n))

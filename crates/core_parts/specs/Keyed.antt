@@ -1,11 +1,10 @@
--- Events whose rows have a key of 64 bits, and whose reads have no range.
-use Rattle.std.specs.Prelude.{◌≡◌, ⊤, [], IfSome}
+-- Events whose rows have a key of 64 bits.
+use Rattle.std.specs.Prelude.{⊤}
 use Rattle.block_body.specs.Keys.{HasKey}
 use Rattle.event_spec.specs.declared.event.Event.TheVariants as event
 use Rattle.event_spec.specs.Effects.{CoreEvent}
 
--- The row of the event, if it has one, has a key of 64 bits, as each row that fits a table, and the
--- reads that it hands in, if it does, have no range.
+-- The row of the event, if it has one, has a key of 64 bits, as each row that fits a table.
 abbrev pub IsKeyed : CoreEvent → Type 0
 IsKeyed (event.Begin session) = ⊤
 IsKeyed (event.Get own table key) = ⊤
@@ -13,7 +12,8 @@ IsKeyed (event.Insert own table row) = HasKey row
 IsKeyed (event.Update own table row) = HasKey row
 IsKeyed (event.Delete own table key) = ⊤
 IsKeyed (event.Read own table block) = ⊤
-IsKeyed (event.Commit own reads) = IfSome reads (λ set. set.ranges ≡ [])
+IsKeyed (event.Range own table low high) = ⊤
+IsKeyed (event.Commit own reads) = ⊤
 IsKeyed (event.Abort own) = ⊤
 IsKeyed event.Oldest = ⊤
 IsKeyed (event.Observe table block) = ⊤

@@ -9,9 +9,10 @@ use Rattle.event_spec.specs.Effects.{CoreEvent}
 use Rattle.event_spec.specs.Newest.{judged_reads}
 use Rattle.event_spec.specs.Parts.{CorePart, Name, HeadOf, ShardOf, BodyOf, TheDesk, Shape, below}
 use Rattle.event_spec.specs.Parts.{shard_of, tables_of}
-use Rattle.event_spec.specs.Touched.{held_next, held_places}
-use Rattle.isolation_spec.specs.Contents.{PlaceMap, key_of}
+use Rattle.event_spec.specs.Touched.{held_keys, held_next, held_places}
+use Rattle.isolation_spec.specs.Contents.{PlaceMap, at_place, key_of, place_at}
 use Rattle.isolation_spec.specs.declared.place.Place.{Place}
+use Rattle.isolation_spec.specs.declared.read.KeyRange.{KeyRange}
 use Rattle.isolation_spec.specs.Reads.{ReadSet}
 
 -- the bodies of places of a table
@@ -46,14 +47,29 @@ module _ (shape : Shape) (held : Name → Option CorePart) where
       ShardOf table (shard_of key) ∷ [] ++ bodies_at table (option_to_list place)
       ++ bodies_at table (held_places shape held table key)
 
-  -- of reads without ranges: the shards of the keys that were got, and the bodies of their
-  -- candidates
+  -- of a key that was got: its shard, and the bodies of its candidates
   abbrev pub names_got : Place → List Name
   names_got place = names_on_key place.table place.key None
 
+  -- where a key's row may be found: the body of the slot of its own write, if a transaction wrote
+  -- it, and those of its candidates
+  abbrev pub bodies_on : PlaceMap ℕ → ℕ → ℤ → List Name
+  bodies_on writes table key =
+      bodies_at table (option_to_list (at_place writes (place_at table key)))
+      ++ bodies_at table (held_places shape held table key)
+
+  -- of a range: the table's shards, and the bodies where the rows of its keys may be found
+  abbrev pub names_ranged : PlaceMap ℕ → KeyRange → List Name
+  names_ranged writes range =
+      shards_in range.table
+      ++ flat_map (bodies_on writes range.table)
+      (held_keys shape held range.table range.low range.high)
+
+  -- of the reads by which a commit is judged
   abbrev pub names_read : Option ReadSet → List Name
   names_read None = []
   names_read (Some reads) = flat_map names_got reads.places
+      ++ flat_map (names_ranged []) reads.ranges
 
   abbrev pub touched_names : CoreEvent → List Name
   touched_names (event.Begin session) = TheDesk ∷ []
@@ -64,6 +80,8 @@ module _ (shape : Shape) (held : Name → Option CorePart) where
   touched_names (event.Update own table row) = names_on_key table (key_of row) own.written
   touched_names (event.Delete own table key) = names_on_key table key own.written
   touched_names (event.Read own table block) = BodyOf table block ∷ []
+  touched_names (event.Range own table low high) =
+      names_ranged own.writes (record { table = table; low = low; high = high })
   touched_names (event.Commit own reads) =
       bodies_written own.writes ++ names_read (judged_reads own.writes reads) ++ TheDesk ∷ []
   touched_names (event.Abort own) =

@@ -12,7 +12,7 @@ use crate::shape::Shape;
 use block_body::Body;
 use event_spec::Part;
 use hall_rule::Hand;
-use key_index::Index;
+use range_index::Ordered;
 use txn_desk::Desk;
 
 /// A table's head, lent.
@@ -27,7 +27,7 @@ pub fn head<'a>(shape: &Shape, held: &'a Hand<CorePart>, table: u32) -> &'a Tabl
 }
 
 /// One of a table's shards, lent.
-pub fn shard<'a>(shape: &Shape, held: &'a Hand<CorePart>, table: u32, shard: u32) -> &'a Index
+pub fn shard<'a>(shape: &Shape, held: &'a Hand<CorePart>, table: u32, shard: u32) -> &'a Ordered
     requires { Has shape.now held.now (ShardOf table shard) }
     ensures { in_hand shape.now held.now (ShardOf table shard) ≡ Some (part.Shard result.now) }
 {
@@ -85,7 +85,7 @@ pub fn take_head(shape: &Shape, held: &mut Hand<CorePart>, table: u32) -> Box<Ta
 }
 
 /// Takes one of a table's shards out of the hand.
-pub fn take_shard(shape: &Shape, held: &mut Hand<CorePart>, table: u32, shard: u32) -> Box<Index>
+pub fn take_shard(shape: &Shape, held: &mut Hand<CorePart>, table: u32, shard: u32) -> Box<Ordered>
     requires { Has shape.now held.old (ShardOf table shard) }
     ensures part { in_hand shape.now held.old (ShardOf table shard)
         ≡ Some (part.Shard result.value) }
@@ -137,7 +137,7 @@ pub fn lay_shard(
     held: &mut Hand<CorePart>,
     table: u32,
     shard: u32,
-    index: Box<Index>,
+    index: Box<Ordered>,
 )
     requires table { HasTable shape.now table }
     requires shard { shard < 8 }

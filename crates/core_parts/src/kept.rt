@@ -4,7 +4,7 @@ ghost use Rattle.std.specs.Prelude.{◌≡◌, IfOk};
 use crate::head_changes::TableHead;
 use block_body::Body;
 use event_spec::Part;
-use key_index::Index;
+use range_index::Ordered;
 use std::alloc::{AllocError, Global};
 use std::marker::Model;
 use txn_desk::Desk;
@@ -22,7 +22,7 @@ impl<T> Model for Kept<T> {
 }
 
 /// A part of the core. Contracts see a head, the candidates of a shard, a body or the desk's state.
-pub type CorePart = Part<Kept<TableHead>, Kept<Index>, Kept<Body>, Kept<Desk>>;
+pub type CorePart = Part<Kept<TableHead>, Kept<Ordered>, Kept<Body>, Kept<Desk>>;
 
 impl<T: Drop> Kept<T> {
     /// Gives the value a place in memory.

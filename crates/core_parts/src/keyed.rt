@@ -12,8 +12,7 @@ use event_spec::Event;
 use std::alloc::Global;
 use std::marker::Model;
 
-/// An event of the core, whose row, if it has one, has a key of 64 bits, and whose reads, if it
-/// hands in any, have no range. Contracts see the event.
+/// An event of the core, whose row, if it has one, has a key of 64 bits. Contracts see the event.
 #[derive(Drop)]
 pub struct KeyedEvent {
     event: Event<Gathered>,
@@ -46,7 +45,7 @@ impl Model for KeyedEvent {
 }
 
 impl KeyedEvent {
-    /// An event whose row has a key of 64 bits, and whose reads have no range.
+    /// An event whose row has a key of 64 bits.
     pub fn new(event: Event<Gathered>) -> KeyedEvent
         requires { IsKeyed event }
         ensures { result ≡ event }

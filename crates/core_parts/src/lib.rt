@@ -33,4 +33,4 @@ pub use read_rows::{ReadForm, ReadRows};
 pub use shape::{Shape, shard_of};
 pub use shard_changes::{add_place, drop_place};
 pub use shared_rows::SharedRows;
-pub use touching::{next_touched, touches};
+pub use touching::{candidates, next_touched, shard_held, slot_written, touches};

@@ -14,7 +14,7 @@ use crate::shape::Shape;
 use block_body::Body;
 use event_spec::Part;
 use hall_rule::Hand;
-use key_index::Index;
+use range_index::Ordered;
 use std::alloc::AllocError;
 use txn_desk::Desk;
 
@@ -69,7 +69,7 @@ fn add_shards_of(
         ++ placed shape.now (map (ShardOf table) (below 8))) }
 {
     for _shard in 0..SHARDS {
-        let index = Index::new(shape.alloc());
+        let index = Ordered::new(shape.alloc());
         places.push(Some(Part::Shard(Kept::new(shape.alloc(), index)?)))?;
     }
     Ok(())

@@ -6,12 +6,12 @@ ghost use Rattle.key_index.specs.Candidates.{candidates_of};
 ghost use Rattle.core_parts.specs.Shards.{without_place};
 
 use block_layout::SlotId;
-use key_index::Index;
+use range_index::Ordered;
 use std::alloc::AllocError;
 
 /// Adds a place to a key's candidates where it is none yet, and tells whether it did. Without
 /// memory nothing changes.
-pub fn add_place(index: &mut Index, key: i64, place: SlotId) -> Result<bool, AllocError>
+pub fn add_place(index: &mut Ordered, key: i64, place: SlotId) -> Result<bool, AllocError>
     ensures ok { OnOk result (index.new ≡ with_place key place index.old) }
     ensures added { IfOk result (λ added. added ≡
         not (list_any (λ other. other == place) (candidates_of index.old key))) }
@@ -25,7 +25,7 @@ pub fn add_place(index: &mut Index, key: i64, place: SlotId) -> Result<bool, All
 }
 
 /// Drops a place from a key's candidates, wherever it stands among them.
-pub fn drop_place(index: &mut Index, key: i64, place: SlotId)
+pub fn drop_place(index: &mut Ordered, key: i64, place: SlotId)
     ensures { index.new ≡ without_place key place index.old }
 {
     index.drop_one(key, place);

@@ -21,6 +21,8 @@ use thiserror::Error;
 pub mod changing;
 pub mod checking;
 #[cfg(test)]
+mod range_tests;
+#[cfg(test)]
 mod tests;
 
 /// Why rows were not handed over.

@@ -16,10 +16,10 @@ use std::test::Fail;
 
 /// A new store, and its two sessions.
 #[derive(Drop)]
-struct Opened {
-    store: Store,
-    one: Session,
-    two: Session,
+pub(crate) struct Opened {
+    pub store: Store,
+    pub one: Session,
+    pub two: Session,
 }
 
 /// A column of numbers that are not null.
@@ -32,7 +32,7 @@ fn column(alloc: Global, name: &[u8]) -> Result<Column, Fail> {
 }
 
 /// A new store of one table, which has a key and a count, and its two sessions.
-fn open(alloc: Global) -> Result<Opened, Fail>
+pub(crate) fn open(alloc: Global) -> Result<Opened, Fail>
     ensures tables { IfOk result (λ opened. length (shape_in opened.store).tables ≡ 1) }
     ensures one { IfOk result (λ opened. IsSession opened.store opened.one) }
     ensures two { IfOk result (λ opened. IsSession opened.store opened.two) }
@@ -68,7 +68,7 @@ fn open(alloc: Global) -> Result<Opened, Fail>
 }
 
 /// The row of a key and a count, which fits the table.
-fn row_of(alloc: Global, store: &Store, key: i64, count: i64) -> Result<Row, Fail>
+pub(crate) fn row_of(alloc: Global, store: &Store, key: i64, count: i64) -> Result<Row, Fail>
     ensures fits { IfOk result (λ row. fits_table (shape_in store.now).tables 0 row ≡ true) }
     ensures key { IfOk result (λ row. key_of row ≡ key) }
 {

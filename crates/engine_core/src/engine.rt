@@ -152,7 +152,7 @@ impl Parts for Core {
         word_of(part)
     }
 
-    /// A begin, a get, a read, a look, a commit, an `oldest` and a pruning turn no word.
+    /// A begin, a get, a read, a range, a look, a commit, an `oldest` and a pruning turn no word.
     #[inline(always)]
     fn turns_words(event: &KeyedEvent) -> bool {
         turns_words(event)

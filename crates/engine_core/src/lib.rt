@@ -1,4 +1,4 @@
-//! The core of the engine: tables in parts, and the sixteen events that work on them, on the parts
+//! The core of the engine: tables in parts, and the seventeen events that work on them, on the parts
 //! in a hand or on a core as a whole.
 #![tactic(auto)]
 

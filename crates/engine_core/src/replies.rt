@@ -15,13 +15,14 @@ ghost use Rattle.hall_rule.specs.Hands.{Agrees};
 use block_layout::SlotId;
 use cell_model::Row;
 use core_events::{
-    CoreReply, begin, delete, get, image, insert, look, observe, oldest, read, seal, stale_read,
-    thaw, update,
+    CoreReply, begin, delete, get, image, insert, look, observe, oldest, range as rows_in_range,
+    read, seal, stale_read, thaw, update,
 };
 use core_parts::{CorePart, Gathered, Shape};
 use core_sweeps::{abort, commit, move_rows, prune};
 use event_spec::{Moves, OwnKey, OwnReads, OwnTransaction, Reply, WriteFault};
 use hall_rule::{Hand, Steps};
+use isolation_spec::KeyRange;
 use std::alloc::AllocError;
 use std::sync::ledger::Ledger;
 
@@ -220,6 +221,30 @@ pub(crate) fn rows_read<L: Ledger>(
 {
     match read(shape, held, own, table, block, steps) {
         Ok(reply) => reply,
+        Err(AllocError) => Reply::Memory,
+    }
+}
+
+/// Reads a range of keys.
+#[inline(never)]
+pub(crate) fn range_read<L: Ledger>(
+    shape: &Shape,
+    held: &Hand<CorePart>,
+    own: &OwnTransaction,
+    range: &KeyRange,
+    steps: &mut Steps<L>,
+) -> CoreReply
+    requires { MayRun shape.now
+        (event.Range own.now range.now.table range.now.low range.now.high) held.now }
+    ensures made { Runs shape.now
+        (event.Range own.now range.now.table range.now.low range.now.high)
+        held.now held.now result }
+    ensures steps { (parts : CoreParts) → Agrees held.now parts
+        → steps.new ≤ steps.old + cost_of shape.now
+        (event.Range own.now range.now.table range.now.low range.now.high) parts }
+{
+    match rows_in_range(shape, held, own, range, steps) {
+        Ok(rows) => Reply::Rows(rows),
         Err(AllocError) => Reply::Memory,
     }
 }

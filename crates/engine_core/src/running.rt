@@ -9,12 +9,13 @@ ghost use Rattle.hall_rule.specs.Hands.{Agrees};
 
 use crate::replies::{
     aborted, begun, committed, deleted, found, frozen, inserted, least_stamp, looked, moved,
-    observed, pruned, rows_read, sealed, thawed, updated,
+    observed, pruned, range_read, rows_read, sealed, thawed, updated,
 };
 use core_events::CoreReply;
 use core_parts::{CorePart, KeyedEvent, Shape};
 use event_spec::Event;
 use hall_rule::{Hand, Steps};
+use isolation_spec::KeyRange;
 use std::sync::ledger::Ledger;
 
 /// Runs an event on the parts in the hand, which has each part that it touches.
@@ -49,6 +50,12 @@ pub(crate) fn run<L: Ledger>(
         Event::Seal { table, block } => sealed(shape, held, table, block),
         Event::Thaw { table, block } => thawed(shape, held, table, block),
         Event::Read { own, table, block } => rows_read(shape, held, &own, table, block, steps),
+        Event::Range {
+            own,
+            table,
+            low,
+            high,
+        } => range_read(shape, held, &own, &KeyRange { table, low, high }, steps),
         Event::Look { table, block } => looked(shape, held, table, block),
         Event::Image {
             table,

@@ -44,6 +44,7 @@ pub(crate) fn turns_words(event: &KeyedEvent) -> bool
         Event::Begin { .. }
         | Event::Get { .. }
         | Event::Read { .. }
+        | Event::Range { .. }
         | Event::Commit { .. }
         | Event::Oldest
         | Event::Prune { .. }

@@ -2,7 +2,7 @@
 use Rattle.std.specs.Prelude.{ℕ, ◌+◌, ◌-◌, ℤ, Bool, true, false, not, ◌&&◌, ◌==◌, List, [], ◌∷◌}
 use Rattle.std.specs.Prelude.{◌++◌, Option, None, Some, is_some, is_none, unwrap_or, nat_lt, filter}
 use Rattle.std.specs.Prelude.{fold, slice_set, Result, Ok, Err, if◌then◌else◌}
-use Rattle.std.specs.List.{flat_map, list_any}
+use Rattle.std.specs.List.{flat_map, filter_map, list_any}
 use Rattle.std.specs.Ordering.{int_eq}
 use Rattle.std.specs.FinMap as finite
 use Rattle.block_layout.specs.Place.{block_of, slot_of}
@@ -23,7 +23,7 @@ use Rattle.event_spec.specs.Parts.{Parts, Shape, Changes, nothing, names, each_c
 use Rattle.event_spec.specs.Parts.{body_at, desk_at, slot_at, places_at, part_at, shard_from}
 use Rattle.event_spec.specs.Parts.{ShardOf, is_head, shard_of, below}
 use Rattle.event_spec.specs.Parts.{blocks_of, slots_of}
-use Rattle.event_spec.specs.Judged.{found_by, judged_insert, judged_change, differences}
+use Rattle.event_spec.specs.Judged.{own_key, found_by, judged_insert, judged_change, differences}
 use Rattle.event_spec.specs.Newest.{keys_within, stale_by}
 use Rattle.isolation_spec.specs.Contents.{PlaceMap, key_of}
 use Rattle.isolation_spec.specs.Reads.{ReadSet}
@@ -142,13 +142,19 @@ module _ (shape : Shape) (parts : Parts) where
       (λ block. (body_at shape parts table block).phase)
       own
 
-  -- ---- what a commit finds
+  -- ---- what a range and a commit find
 
   -- the keys of a table between two, both counted, shard by shard
   abbrev pub range_keys : ℕ → ℤ → ℤ → List ℤ
   range_keys table low high = flat_map
       (λ shard. keys_within low high (shard_from (part_at shape parts (ShardOf table shard))))
       (below 8)
+
+  -- the rows that a session finds of them, in this order
+  abbrev pub range_found : OwnTransaction → ℕ → ℤ → ℤ → List Row
+  range_found own table low high = filter_map
+      (λ key. found (own_key table key own) table key)
+      (range_keys table low high)
 
   -- Why a commit is refused: of the transaction's reads the first that a later commit wrote into.
   abbrev pub stale_in : OwnTransaction → Option ReadSet → Option (Read × ℕ)
@@ -304,6 +310,7 @@ module _ (shape : Shape) (parts : Parts) where
   changes_of (event.Delete own table key) = after_change own table (λ old. change.Gone)
       (change_judged own table key)
   changes_of (event.Read own table block) = nothing
+  changes_of (event.Range own table low high) = nothing
   changes_of (event.Commit own reads) = after_judged own (stale_in own reads)
   changes_of (event.Abort own) = after_abort own
   changes_of event.Oldest = nothing

@@ -1,5 +1,5 @@
 -- What a transaction finds of a key, where its write of it goes, and what stands in the way.
-use Rattle.std.specs.Prelude.{ℕ, ◌+◌, Bool, true, false, not, List, [], ◌∷◌, Option, None, Some}
+use Rattle.std.specs.Prelude.{ℕ, ◌+◌, ℤ, Bool, true, false, not, List, [], ◌∷◌, Option, None, Some}
 use Rattle.std.specs.Prelude.{is_some, is_none, option_and_then, nat_lt, bytes_eq, Result, Ok, Err}
 use Rattle.std.specs.Prelude.{if◌then◌else◌}
 use Rattle.std.specs.List.{flat_map}
@@ -12,13 +12,23 @@ use Rattle.block_spec.specs.Slots.{Slot, Row, Patch, seen}
 use Rattle.cell_model.specs.declared.cell.Cell.{Cell}
 use Rattle.cell_model.specs.declared.cell.Cell.TheVariants.{Null, Num, Truth, Text, Blob}
 use Rattle.event_spec.specs.declared.own.OwnKey.{OwnKey}
+use Rattle.event_spec.specs.declared.own.OwnTransaction.{OwnTransaction}
 use Rattle.event_spec.specs.declared.part.Head.{Head}
 use Rattle.event_spec.specs.declared.reply.WriteFault.{WriteFault}
 use Rattle.event_spec.specs.declared.reply.WriteFault.TheVariants.{ConflictSession, ConflictCommit}
 use Rattle.event_spec.specs.declared.reply.WriteFault.TheVariants.{Exists, Missing, Freezing, Full}
+use Rattle.isolation_spec.specs.Contents.{at_place, place_at}
 use Rattle.undo_chain.specs.declared.chain.Newer.{Newer}
 use Rattle.undo_chain.specs.declared.chain.Newer.TheVariants as newer
 use Rattle.undo_chain.specs.Conflict.{other_writer, numbers_above, largest, conflict_by}
+
+-- what an event on one key is handed of a transaction
+abbrev pub own_key : ℕ → ℤ → OwnTransaction → OwnKey
+own_key table key own = record {
+  session = own.session;
+  snapshot = own.snapshot;
+  written = at_place own.writes (place_at table key);
+}
 
 -- the first answer of some places
 abbrev pub first_at : {X : Type 0} → (ℕ → Option X) → List ℕ → Option X

@@ -24,6 +24,7 @@ use Rattle.event_spec.specs.Replies.{CoreReply}
 use Rattle.isolation_spec.specs.Contents.{at_place, place_at, key_of}
 use Rattle.isolation_spec.specs.Reads.{ReadSet}
 use Rattle.isolation_spec.specs.declared.place.Place.{Place}
+use Rattle.isolation_spec.specs.declared.read.KeyRange.{KeyRange}
 use Rattle.txn_desk.specs.declared.Snapshot.{Snapshot}
 use Rattle.txn_desk.specs.Oldest.{snapshot_of, oldest_of}
 use Rattle.undo_chain.specs.declared.undo.Undo.{Undo}
@@ -143,6 +144,7 @@ Stands shape (event.Insert own table row) parts = OwnsKey shape own table (key_o
 Stands shape (event.Update own table row) parts = OwnsKey shape own table (key_of row) parts
 Stands shape (event.Delete own table key) parts = OwnsKey shape own table key parts
 Stands shape (event.Read own table block) parts = OwnsAll shape own parts
+Stands shape (event.Range own table low high) parts = OwnsAll shape own parts
 Stands shape (event.Commit own reads) parts = OwnsAll shape own parts
 Stands shape (event.Abort own) parts = OwnsAll shape own parts
 Stands shape event.Oldest parts = ⊤
@@ -178,11 +180,11 @@ IsThawed shape table key parts = IfSome
     (current_place (slot_at shape parts table) (places_at shape parts table key))
     (λ place. is_imaged (body_at shape parts table (block_of place)).phase ≡ false)
 
--- Each read names a table that is there, and none is a range.
+-- Each read names a table that is there.
 pub record HasReads (shape : Shape) (reads : ReadSet) : Type 0 where
   pub places : All (λ (place : Place). HasTable shape place.table) reads.places
   pub tables : All (HasTable shape) reads.tables
-  pub ranges : reads.ranges ≡ []
+  pub ranges : All (λ (range : KeyRange). HasTable shape range.table) reads.ranges
 
 -- What an event asks of the parts that it touches.
 abbrev pub FitsIn : Shape → CoreEvent → Parts → Type 0
@@ -194,6 +196,7 @@ FitsIn shape (event.Update own table row) parts =
 FitsIn shape (event.Delete own table key) parts = HasTable shape table
     × IsThawed shape table key parts
 FitsIn shape (event.Read own table block) parts = HasBlock shape table block
+FitsIn shape (event.Range own table low high) parts = HasTable shape table
 FitsIn shape (event.Commit own reads) parts = HasStamp shape parts × IfSome reads (HasReads shape)
 FitsIn shape (event.Abort own) parts = ⊤
 FitsIn shape event.Oldest parts = ⊤
@@ -225,6 +228,7 @@ session_of (event.Insert own table row) = Some own.session
 session_of (event.Update own table row) = Some own.session
 session_of (event.Delete own table key) = Some own.session
 session_of (event.Read own table block) = Some own.session
+session_of (event.Range own table low high) = Some own.session
 session_of (event.Commit own reads) = Some own.session
 session_of (event.Abort own) = Some own.session
 session_of event.Oldest = None
@@ -244,6 +248,7 @@ reads_handed (event.Insert own table row) = None
 reads_handed (event.Update own table row) = None
 reads_handed (event.Delete own table key) = None
 reads_handed (event.Read own table block) = None
+reads_handed (event.Range own table low high) = None
 reads_handed (event.Commit own reads) = reads
 reads_handed (event.Abort own) = None
 reads_handed event.Oldest = None
@@ -263,6 +268,7 @@ takes_memory (event.Insert own table row) = true
 takes_memory (event.Update own table row) = true
 takes_memory (event.Delete own table key) = true
 takes_memory (event.Read own table block) = true
+takes_memory (event.Range own table low high) = true
 takes_memory (event.Commit own reads) = false
 takes_memory (event.Abort own) = false
 takes_memory event.Oldest = false

@@ -12,3 +12,4 @@ pub mod Follows
 pub mod Sound
 pub mod Examples
 pub mod StaleExamples
+pub mod RangeExamples

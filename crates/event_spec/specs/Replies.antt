@@ -1,8 +1,9 @@
 -- What the core replies to each event.
 use Rattle.std.specs.Prelude.{ℕ, ◌+◌, Bool, false, not, ◌==◌, List, Option, None, Some}
-use Rattle.std.specs.Prelude.{option_and_then, length, Result, Ok, Err, if◌then◌else◌}
+use Rattle.std.specs.Prelude.{[], fold, option_and_then, length, Result, Ok, Err, if◌then◌else◌}
+use Rattle.std.specs.BTreeMap.{insert_entry}
 use Rattle.std.specs.List.{filter_map}
-use Rattle.block_layout.specs.Place.{place_of}
+use Rattle.block_layout.specs.Place.{place_of as slot_place}
 use Rattle.block_spec.specs.declared.phase.Phase.{Phase}
 use Rattle.block_spec.specs.declared.phase.Phase.TheVariants.{Loose, Sealed, Imaged}
 use Rattle.block_spec.specs.declared.phase.SealFault.{SealFault}
@@ -16,8 +17,9 @@ use Rattle.event_spec.specs.declared.reply.Reply.TheVariants as reply
 use Rattle.event_spec.specs.declared.reply.WriteFault.{WriteFault}
 use Rattle.event_spec.specs.Parts.{Parts, Shape, body_at, desk_at, slot_at, is_head, below}
 use Rattle.event_spec.specs.Effects.{CoreEvent, is_some_write, found, insert_judged, change_judged}
-use Rattle.event_spec.specs.Effects.{stale_in, held_pairs}
-use Rattle.isolation_spec.specs.Contents.{at_place, place_at, key_of}
+use Rattle.event_spec.specs.Effects.{range_found, stale_in, held_pairs}
+use Rattle.isolation_spec.specs.Contents.{State, place_cmp, at_place, contents_of, place_at}
+use Rattle.isolation_spec.specs.Contents.{place_of, key_of}
 use Rattle.isolation_spec.specs.declared.read.Read.{Read}
 use Rattle.txn_desk.specs.Oldest.{oldest_of}
 
@@ -43,6 +45,15 @@ reply_to_image Loose body = reply.NoSeal
 reply_to_image (Sealed stamp) body = reply.Imaged (length (rows_of body))
 reply_to_image (Imaged stamp) body = reply.NoSeal
 
+-- rows of a table, by their places
+abbrev pub by_place : ℕ → List Row → State
+by_place table rows =
+    fold (λ state row. insert_entry place_cmp state (place_of table row) row) [] rows
+
+-- rows of a table in the order of their keys
+abbrev pub in_key_order : ℕ → List Row → List Row
+in_key_order table rows = contents_of table (by_place table rows)
+
 module _ (shape : Shape) (parts : Parts) where
   -- A row that the session sees at a place, but for one whose key it wrote at another slot.
   abbrev pub row_read : OwnTransaction → ℕ → ℕ → Option Row
@@ -54,7 +65,7 @@ module _ (shape : Shape) (parts : Parts) where
   -- the rows read in a block, in slot order
   abbrev pub rows_read : OwnTransaction → ℕ → ℕ → List Row
   rows_read own table block =
-      filter_map (λ slot. row_read own table (place_of block slot))
+      filter_map (λ slot. row_read own table (slot_place block slot))
       (below (length (body_at shape parts table block).slots))
 
   -- An imaged block replies its shared image, which stands for all its rows.
@@ -85,6 +96,8 @@ module _ (shape : Shape) (parts : Parts) where
       (change_judged shape parts own table (key_of row))
   reply_to (event.Delete own table key) = reply_to_write (change_judged shape parts own table key)
   reply_to (event.Read own table block) = reply_to_read own table block
+  reply_to (event.Range own table low high) = reply.Rows
+      (range_found shape parts own table low high)
   reply_to (event.Commit own reads) = reply_to_commit own (stale_in shape parts own reads)
   reply_to (event.Abort own) = reply.Aborted
   reply_to event.Oldest = reply.Oldest (oldest_of (desk_at shape parts))

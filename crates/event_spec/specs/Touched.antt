@@ -6,13 +6,14 @@ use Rattle.std.specs.Option.{option_or}
 use Rattle.block_layout.specs.Place.{block_of}
 use Rattle.event_spec.specs.declared.event.Event.TheVariants as event
 use Rattle.event_spec.specs.declared.event.MovePair.{MovePair}
+use Rattle.event_spec.specs.declared.own.OwnTransaction.{OwnTransaction}
 use Rattle.event_spec.specs.Parts.{CorePart, Shape, Name, HeadOf, ShardOf, BodyOf, TheDesk}
 use Rattle.event_spec.specs.Parts.{same_name, names, held_named, head_from, shard_from, slots_of}
 use Rattle.event_spec.specs.Parts.{shard_of, below}
 use Rattle.event_spec.specs.Judged.{next_place}
 use Rattle.event_spec.specs.Newest.{keys_within, judged_reads}
 use Rattle.event_spec.specs.Effects.{CoreEvent}
-use Rattle.isolation_spec.specs.Contents.{PlaceMap, key_of}
+use Rattle.isolation_spec.specs.Contents.{PlaceMap, at_place, place_at, key_of}
 use Rattle.isolation_spec.specs.Reads.{ReadSet}
 use Rattle.isolation_spec.specs.declared.place.Place.{Place}
 use Rattle.isolation_spec.specs.declared.read.KeyRange.{KeyRange}
@@ -87,6 +88,12 @@ module _ (shape : Shape) (held : Name → Option CorePart) where
       (λ shard. keys_within low high (shard_from (held (ShardOf table shard))))
       (below 8)
 
+  -- where a transaction may find a key's row: on the slot of its own write of it, and at the
+  -- candidates
+  abbrev pub seen_places : OwnTransaction → ℕ → ℤ → List ℕ
+  seen_places own table key = option_to_list (at_place own.writes (place_at table key))
+      ++ held_places table key
+
   -- a key that was got: its shard and the bodies of its candidates
   abbrev pub touched_by_got : Place → Name → Bool
   touched_by_got place name =
@@ -122,6 +129,10 @@ module _ (shape : Shape) (held : Name → Option CorePart) where
   touched (event.Delete own table key) name =
       touched_by_key table key (option_to_list own.written ++ held_places table key) name
   touched (event.Read own table block) name = touched_by_block table block name
+  touched (event.Range own table low high) name =
+      is_shard_in table name
+      || list_any (λ key. is_body_of table (seen_places own table key) name)
+      (held_keys table low high)
   touched (event.Commit own reads) name =
       is_body_written own.writes name || touched_by_reads (judged_reads own.writes reads) name
       || same_name TheDesk name

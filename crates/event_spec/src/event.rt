@@ -53,6 +53,13 @@ pub enum Event<I> {
         table: u32,
         block: u32,
     },
+    /// Asks for the rows that the session sees of the keys between two, both counted.
+    Range {
+        own: OwnTransaction,
+        table: u32,
+        low: i64,
+        high: i64,
+    },
     /// Ends a transaction, whose writes become visible to later ones. A checked one hands in what
     /// it read, and is refused where it wrote and a later commit wrote into that.
     Commit {

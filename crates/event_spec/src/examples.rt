@@ -7,6 +7,8 @@ ghost use Rattle.event_spec.specs.Examples.{EventsTouchParts, KeysTouchParts};
 ghost use Rattle.event_spec.specs.Examples.{TransactionsAreOpened, CommitsAreNumbered};
 ghost use Rattle.event_spec.specs.Examples.{AbortsLeaveNothing, ReadsSeeOwnWrites};
 ghost use Rattle.event_spec.specs.Examples.{MovesTakeOneStamp, FreezesGoInTurn, LogsAreReplayed};
+ghost use Rattle.event_spec.specs.RangeExamples.{RangesAreRead, RangesAreStale};
+ghost use Rattle.event_spec.specs.RangeExamples.{RangesChangeNothing, RangesTouchParts};
 ghost use Rattle.event_spec.specs.StaleExamples.{KeysAreStale, TablesAreStale, ReadsTouchParts};
 ghost use Rattle.event_spec.specs.StaleExamples.{StaleCommitsAreRefused, RefusalsChangeNothing};
 ghost use Rattle.event_spec.specs.StaleExamples.{TablesHaveLastWriters};
@@ -106,6 +108,22 @@ pub fn aborts_leave_nothing()
 /// A block read has the own writes, but for keys written at another slot.
 pub fn reads_see_own_writes()
     ensures { ReadsSeeOwnWrites }
+{}
+
+/// A range has the rows of its keys, both ends counted, with the own writes, and changes nothing.
+pub fn ranges_are_read()
+    ensures rows { RangesAreRead }
+    ensures effect { RangesChangeNothing }
+{}
+
+/// Which parts a range touches.
+pub fn ranges_touch_parts()
+    ensures { RangesTouchParts }
+{}
+
+/// A commit is refused where a later commit wrote a key of a range that it read.
+pub fn ranges_are_stale()
+    ensures { RangesAreStale }
 {}
 
 /// A move takes one stamp for all pairs that hold, and none where none holds.

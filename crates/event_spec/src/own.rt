@@ -101,6 +101,13 @@ impl OwnReads {
         &self.rows.places
     }
 
+    /// The ranges, lent, in the order of their calls.
+    pub fn ranges(&self) -> &[KeyRange]
+        ensures { result.now ≡ self.now.ranges }
+    {
+        &self.rows.ranges
+    }
+
     /// The tables that were read as a whole.
     pub fn tables(&self) -> &TableMarks
         ensures { marked_tables result.now ≡ self.now.tables }

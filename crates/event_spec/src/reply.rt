@@ -82,7 +82,7 @@ pub enum Reply<R, I, L> {
     /// The write was refused, and nothing changed.
     Refused(WriteFault),
     /// The rows that the session sees in the block, in slot order, without those whose key it wrote
-    /// at another slot.
+    /// at another slot; or in the range, shard by shard of the index, and by key in each.
     Rows(R),
     /// The shared image of the block's rows, of which none was read.
     Shared(I),

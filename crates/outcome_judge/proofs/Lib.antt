@@ -1,4 +1,6 @@
 pub mod Laid
+pub mod KeyLists
+pub mod Walking
 pub mod Rows
 pub mod Noted
 pub mod Own
@@ -26,6 +28,8 @@ pub mod Whole
 pub mod Noting
 pub mod Numbering
 pub mod Targets
+pub mod Accepted
+pub mod Meetings
 pub mod Threads
 pub mod Valuing
 pub mod ReadsLast

@@ -113,8 +113,8 @@ wrote-insert of (write ∷ writes) place row = by (wrote-insert of writes place 
     by rest Equal is = again (covers of write.0) (wrote of writes) ∙ ap (λ (p : Place). (covers of write.0 || wrote of writes) || covers of p) (sym (one-place place write.0 is))
     by rest Greater is = ap (λ (b : Bool). covers of write.0 || b) rest ∙ grouped (covers of write.0) (wrote of writes) (covers of place)
 
--- A write set with changes entered has a place of a target that it had, or that a change has.
-entered-writes : (of : Target) (changes : List (Place × Option (List Cell))) (writes : WriteSet)
+-- a write set with changes entered has a place of a target that it had, or that a change has
+pub entered-writes : (of : Target) (changes : List (Place × Option (List Cell))) (writes : WriteSet)
     → wrote of (entered writes changes) ≡ (wrote of writes || list_any (λ (c : Place × Option (List Cell)). covers of c.0) changes)
 entered-writes of [] writes = sym (or-false (wrote of writes))
 entered-writes of (change ∷ changes) writes =

@@ -40,8 +40,8 @@ equal-by Less = refl
 equal-by Equal = refl
 equal-by Greater = refl
 
--- A row has its place alone.
-row-covers : (place other : Place) → covers (row_target place) other ≡ is_place other place
+-- a row has its place alone
+pub row-covers : (place other : Place) → covers (row_target place) other ≡ is_place other place
 row-covers place other =
     ap (λ (b : Bool). is_place other place || b) (greater-not (nat_cmp other.table place.table)) ∙ or-false (is_place other place)
 

@@ -11,6 +11,7 @@ pub mod Ranks
 pub mod Held
 pub mod Leads
 pub mod Written
+pub mod KeyLists
 pub mod Rivals
 pub mod Writers
 pub mod Conflicts

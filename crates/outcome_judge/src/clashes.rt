@@ -4,6 +4,7 @@ ghost use Rattle.cell_model.specs.declared.table.TableDecl.{TableDecl};
 ghost use Rattle.order_laws.specs.Opened.{OpensOutside};
 ghost use Rattle.order_laws.specs.Places.{Rises};
 ghost use Rattle.outcome_judge.specs.Conflicts.{sessions_hold};
+ghost use Rattle.outcome_judge.specs.KeyLists.{AreKeys};
 ghost use Rattle.outcome_judge.specs.Rivals.{AreRivals};
 ghost use Rattle.outcome_judge.specs.Writers.{AreHeights, AreNumbered, transaction_told};
 ghost use Rattle.outcome_counts.specs.Asked.{IsAsked, IsJudgedBy, asked_at};
@@ -14,6 +15,7 @@ ghost use Rattle.output_read.specs.declared.kept.KeptReply.{KeptReply as Kept};
 ghost use Rattle.outcome_judge.specs.Judged.{EndsAt, heights_stand, numbers_stand};
 
 use crate::commits::{Heights, Numbers, Transaction};
+use crate::key_list::KeyList;
 use crate::rivals::Rivals;
 use crate::stale::both_hold;
 use crate::transactions::transaction_at;
@@ -25,12 +27,14 @@ impl Heights {
     /// Whether the reply keeps what is asked of how high commits are.
     fn all_stand(
         &self,
+        keys: &KeyList,
         spans: &Spans,
         replies: &[KeptReply<'_>],
         at: usize,
         stretch: &Stretch,
         transaction: Option<Transaction>,
     ) -> bool
+        requires keys { AreKeys (entries_of replies.now) keys.now }
         requires heights { AreHeights (entries_of replies.now) self.now }
         requires spans { AreSpans (entries_of replies.now) (length replies.now) spans.now }
         requires asked { IsAsked replies.now at stretch.now }
@@ -43,7 +47,7 @@ impl Heights {
             result }
     {
         let writes = self.heights_hold(replies, at, stretch, transaction);
-        let reads = self.tops_stand(spans, replies, at, stretch);
+        let reads = self.tops_stand(keys, spans, replies, at, stretch);
         both_hold(writes, reads)
     }
 }
@@ -52,11 +56,13 @@ impl Numbers {
     /// Whether the reply keeps what is asked of the numbers of commits.
     fn all_stand(
         &self,
+        keys: &KeyList,
         spans: &Spans,
         replies: &[KeptReply<'_>],
         at: usize,
         transaction: Option<Transaction>,
     ) -> bool
+        requires keys { AreKeys (entries_of replies.now) keys.now }
         requires numbers { AreNumbered (entries_of replies.now) self.now }
         requires spans { AreSpans (entries_of replies.now) (length replies.now) spans.now }
         requires outside { OpensOutside (entries_of replies.now) }
@@ -70,7 +76,7 @@ impl Numbers {
             result }
     {
         let writes = self.numbers_hold(replies, at, transaction);
-        let reads = self.reads_stand(spans, replies, at);
+        let reads = self.reads_stand(keys, spans, replies, at);
         both_hold(writes, reads)
     }
 }
@@ -107,10 +113,12 @@ pub(crate) fn sessions_end(
 /// writes or names as read, or else that place.
 pub(crate) fn heights_end(
     heights: &Heights,
+    keys: &KeyList,
     spans: &Spans,
     replies: &[KeptReply<'_>],
     until: usize,
 ) -> usize
+    requires keys { AreKeys (entries_of replies.now) keys.now }
     requires heights { AreHeights (entries_of replies.now) heights.now }
     requires spans { AreSpans (entries_of replies.now) (length replies.now) spans.now }
     requires rises { Rises (entries_of replies.now) }
@@ -123,7 +131,7 @@ pub(crate) fn heights_end(
     for at in 0..until {
         let stretch = stretch_behind(replies, at, known);
         let transaction = transaction_at(spans, replies, at);
-        if !heights.all_stand(spans, replies, at, &stretch, transaction) {
+        if !heights.all_stand(keys, spans, replies, at, &stretch, transaction) {
             return at;
         }
         known = Some(stretch);
@@ -135,10 +143,12 @@ pub(crate) fn heights_end(
 /// commits after one that it does not see, or else that place.
 pub(crate) fn numbers_end(
     numbers: &Numbers,
+    keys: &KeyList,
     spans: &Spans,
     replies: &[KeptReply<'_>],
     until: usize,
 ) -> usize
+    requires keys { AreKeys (entries_of replies.now) keys.now }
     requires numbers { AreNumbered (entries_of replies.now) numbers.now }
     requires spans { AreSpans (entries_of replies.now) (length replies.now) spans.now }
     requires outside { OpensOutside (entries_of replies.now) }
@@ -148,7 +158,7 @@ pub(crate) fn numbers_end(
 {
     for at in 0..until {
         let transaction = transaction_at(spans, replies, at);
-        if !numbers.all_stand(spans, replies, at, transaction) {
+        if !numbers.all_stand(keys, spans, replies, at, transaction) {
             return at;
         }
     }

@@ -69,7 +69,7 @@ fn count_up_to(numbers: &[u64], bound: u64) -> usize
 }
 
 /// Whether a commit number is above the snapshot, with what is told of it.
-fn is_named_by(snapshot: u64, number: u64, wrote: bool, is_not_after: bool) -> bool
+pub(crate) fn is_named_by(snapshot: u64, number: u64, wrote: bool, is_not_after: bool) -> bool
     ensures { result ≡ (nat_lt snapshot number && wrote && is_not_after) }
 {
     snapshot < number && wrote && is_not_after
@@ -136,7 +136,7 @@ impl Heights {
 
 impl Numbers {
     /// Whether the line of a commit number is there, and not after the reply.
-    fn is_not_after(&self, replies: &[KeptReply<'_>], at: usize, number: u64) -> bool
+    pub(crate) fn is_not_after(&self, replies: &[KeptReply<'_>], at: usize, number: u64) -> bool
         requires written { AreNumbered (entries_of replies.now) self.now }
         requires inside { at < length replies.now }
         ensures { (none : Kept) (tables : List TableDecl) → result
@@ -153,7 +153,7 @@ impl Numbers {
     }
 
     /// Whether a commit of this number wrote the row or table.
-    fn wrote(&self, replies: &[KeptReply<'_>], of: Target, number: u64) -> bool
+    pub(crate) fn wrote(&self, replies: &[KeptReply<'_>], of: Target, number: u64) -> bool
         requires { AreNumbered (entries_of replies.now) self.now }
         ensures { result ≡ is_number_in (numbers_at (entries_of replies.now) of) number }
     {

@@ -3,7 +3,7 @@ ghost use Rattle.std.specs.Prelude.{◌≡◌, ◌<◌, ◌≤◌, ◌^◌, IfOk
 ghost use Rattle.cell_model.specs.declared.table.TableDecl.{TableDecl as TableValue};
 ghost use Rattle.order_laws.specs.Opened.{OpensOutside};
 ghost use Rattle.order_laws.specs.Places.{Rises};
-ghost use Rattle.outcome_judge.specs.Asked.{are_judged};
+ghost use Rattle.outcome_judge.specs.Asked.{are_bounded};
 ghost use Rattle.outcome_judge.specs.Conflicts.{sessions_hold};
 ghost use Rattle.outcome_judge.specs.Writers.{IsWritten};
 ghost use Rattle.outcome_judge.specs.Commits.{AreCommits};
@@ -14,6 +14,7 @@ ghost use Rattle.outcome_spec.specs.Runs.{commit_count, run_of};
 ghost use Rattle.output_read.specs.Kept.{are_told, entries_of};
 ghost use Rattle.outcome_judge.specs.Judged.{EndsAt, commits_hold, conflicts_and_views_hold};
 ghost use Rattle.outcome_judge.specs.Judged.{views_hold};
+ghost use Rattle.outcome_judge.specs.KeyLists.{AreKeys};
 ghost use Rattle.outcome_judge.specs.Kept.{AreShared};
 
 use crate::changes::Changes;
@@ -22,6 +23,7 @@ use crate::commits::{Heights, Numbers};
 use crate::committed::{CommitPlaces, Committed};
 use crate::counts::Counts;
 use crate::exports::Exports;
+use crate::key_list::KeyList;
 use crate::rivals::Rivals;
 use crate::shared::Shared;
 use crate::sights::Sights;
@@ -57,12 +59,14 @@ fn free_end(
 fn clear_end<'a>(
     alloc: Global,
     shared: &Shared,
+    keys: &KeyList,
     replies: &[KeptReply<'a>],
     written: &Written<'_, 'a>,
     count: usize,
     until: usize,
 ) -> Result<usize, AllocError>
     requires shared { AreShared (entries_of replies.now) (length replies.now) shared.now }
+    requires keys { AreKeys (entries_of replies.now) keys.now }
     requires written { IsWritten (entries_of replies.now) written.now }
     requires count { count ≡ commit_count (entries_of replies.now) }
     requires rises { Rises (entries_of replies.now) }
@@ -73,10 +77,10 @@ fn clear_end<'a>(
         until) }
 {
     let heights = Heights::of(alloc, replies, written, count)?;
-    let low = heights_end(&heights, &shared.spans, replies, until);
+    let low = heights_end(&heights, keys, &shared.spans, replies, until);
     drop(heights);
     let numbers = Numbers::of(alloc, replies, written, count)?;
-    Ok(numbers_end(&numbers, &shared.spans, replies, low))
+    Ok(numbers_end(&numbers, keys, &shared.spans, replies, low))
 }
 
 /// Where the first reply stands, in front of a place, that what its transaction sees does not
@@ -84,6 +88,7 @@ fn clear_end<'a>(
 fn seen_end<'a>(
     alloc: Global,
     shared: Shared,
+    keys: &KeyList,
     tables: &[TableDecl],
     replies: &[KeptReply<'a>],
     changes: Changes<'a>,
@@ -91,6 +96,7 @@ fn seen_end<'a>(
     until: usize,
 ) -> Result<usize, AllocError>
     requires shared { AreShared (entries_of replies.now) (length replies.now) shared }
+    requires keys { AreKeys (entries_of replies.now) keys.now }
     requires changes { AreChanges (openings_in (entries_of replies.now)) (entries_of replies.now)
         (length replies.now) changes }
     requires committed { AreCommits (openings_in (entries_of replies.now)) (entries_of replies.now)
@@ -98,7 +104,7 @@ fn seen_end<'a>(
     requires rises { Rises (entries_of replies.now) }
     requires outside { OpensOutside (entries_of replies.now) }
     requires told { are_told replies.now ≡ true }
-    requires judged { are_judged (entries_of replies.now) ≡ true }
+    requires bounded { are_bounded (entries_of replies.now) ≡ true }
     requires within { until ≤ length replies.now }
     ensures { IfOk result (EndsAt (views_hold (run_of tables.now (entries_of replies.now)))
         replies.now until) }
@@ -116,7 +122,7 @@ fn seen_end<'a>(
     drop(blocks);
     drop(changes);
     let sights = Sights::of(alloc, replies, openings, committed)?;
-    accesses_end(alloc, &sights, replies, openings, told)
+    accesses_end(alloc, &sights, keys, replies, openings, told)
 }
 
 /// Where the first reply stands, in front of a place, that conflicts or what its transaction sees
@@ -134,7 +140,7 @@ fn written_end<'a>(
     requires rises { Rises (entries_of replies.now) }
     requires outside { OpensOutside (entries_of replies.now) }
     requires told { are_told replies.now ≡ true }
-    requires judged { are_judged (entries_of replies.now) ≡ true }
+    requires bounded { are_bounded (entries_of replies.now) ≡ true }
     requires count { count ≡ commit_count (entries_of replies.now) }
     requires within { until ≤ length replies.now }
     ensures { IfOk result (EndsAt
@@ -150,10 +156,13 @@ fn written_end<'a>(
         changes: &changes,
         places: &places,
     };
-    let clear = clear_end(alloc, &shared, replies, &written, count, free)?;
+    let keys = KeyList::of(alloc, replies)?;
+    let clear = clear_end(alloc, &shared, &keys, replies, &written, count, free)?;
     let committed = Committed::of(alloc, replies, openings, &changes, &places, count)?;
     drop(places);
-    seen_end(alloc, shared, tables, replies, changes, committed, clear)
+    seen_end(
+        alloc, shared, &keys, tables, replies, changes, committed, clear,
+    )
 }
 
 /// Where the first reply stands that is not sound, or else the count of the replies.
@@ -166,7 +175,7 @@ fn sound_end(
     requires rises { Rises (entries_of replies.now) }
     requires outside { OpensOutside (entries_of replies.now) }
     requires told { are_told replies.now ≡ true }
-    requires judged { are_judged (entries_of replies.now) ≡ true }
+    requires bounded { are_bounded (entries_of replies.now) ≡ true }
     ensures { IfOk result (EndsAt (is_sound (run_of tables.now (entries_of replies.now)))
         replies.now (length replies.now)) }
 {
@@ -190,7 +199,7 @@ pub(crate) fn unsound_line(
     requires rises { Rises (entries_of replies.now) }
     requires outside { OpensOutside (entries_of replies.now) }
     requires told { are_told replies.now ≡ true }
-    requires judged { are_judged (entries_of replies.now) ≡ true }
+    requires bounded { are_bounded (entries_of replies.now) ≡ true }
     ensures { IfOk result (λ line. line
         ≡ unsound_line (run_of tables.now (entries_of replies.now))) }
 {

@@ -10,17 +10,22 @@ ghost use Rattle.outcome_spec.specs.Answers.{write_holds, writes_hold};
 ghost use Rattle.outcome_spec.specs.Runs.{run_of};
 ghost use Rattle.output_read.specs.Kept.{are_told, entries_of, entry_of, is_told};
 ghost use Rattle.output_read.specs.declared.kept.KeptReply.{KeptReply as Kept};
-ghost use Rattle.outcome_judge.specs.Asked.{are_judged, is_judged};
-ghost use Rattle.outcome_judge.specs.ReadsJudged.{are_found, as_wanted, is_above, is_met, read_by};
+ghost use Rattle.outcome_judge.specs.Asked.{are_bounded, is_bounded};
+ghost use Rattle.outcome_judge.specs.KeyLists.{AreKeys};
+ghost use Rattle.outcome_judge.specs.ReadsJudged.{HasBounds, are_found, as_wanted, is_above};
+ghost use Rattle.outcome_judge.specs.ReadsJudged.{is_met, read_by};
 ghost use Rattle.outcome_judge.specs.HistoryKept.{place_in};
 ghost use Rattle.outcome_judge.specs.Seen.{AreSights, IsOutput, seen_up_to};
 
 use crate::changes::opening_at;
 use crate::compare::is_row;
+use crate::key_list::KeyList;
 use crate::keys::RowKey;
 use crate::sights::Sights;
+use crate::walks::TotalAsked;
 use cell_model::{Row, Rows};
-use output_read::{KeptReply, Told, key_of};
+use isolation_spec::KeyRange;
+use output_read::{KeptReply, Told, Totalled, key_of};
 use reply_text::{row_in, rows_in};
 use std::alloc::{AllocError, Global};
 use workload_spec::Command;
@@ -76,21 +81,24 @@ fn acceptance_told(reply: &KeptReply<'_>) -> Option<bool>
     }
 }
 
-/// What a reply says of what is seen: nothing, the row of a key, that there is none, or the rows of
-/// a table.
+/// What a reply says of what is seen: nothing, the row of a key, that there is none, the rows of a
+/// table or of a range of its keys, or how many numbers of a column there are and their sum.
 #[derive(Clone, Copy, Debug, Drop)]
 pub(crate) enum Read<'a> {
     Nothing,
     Row(RowKey, &'a [u8]),
     NoRow(RowKey),
     Rows(u32, &'a [u8]),
+    Range(KeyRange, &'a [u8]),
+    Total(TotalAsked, Totalled),
 }
 
 /// What the reply says of what is seen.
 fn read_told<'a>(reply: &KeptReply<'a>) -> Read<'a>
     requires told { is_told reply.now.told ≡ true }
-    requires judged { is_judged (entry_of reply.now).command ≡ true }
-    ensures { (seen : Seen) → read_holds seen (entry_of reply.now).command
+    requires bounded { is_bounded (entry_of reply.now).command ≡ true }
+    ensures bounded { HasBounds result }
+    ensures read { (seen : Seen) → read_holds seen (entry_of reply.now).command
         (entry_of reply.now).reply.said ≡ read_by seen result }
 {
     match (&reply.told, reply.command) {
@@ -106,6 +114,33 @@ fn read_told<'a>(reply: &KeptReply<'a>) -> Read<'a>
             key: i128::from(*key),
         }),
         (Told::Scanned { lines, .. }, Some(Command::Scan { table })) => Read::Rows(*table, *lines),
+        (Told::Scanned { lines, .. }, Some(Command::Range { table, low, high })) => Read::Range(
+            KeyRange {
+                table: *table,
+                low: *low,
+                high: *high,
+            },
+            *lines,
+        ),
+        (
+            Told::Totalled(total),
+            Some(
+                Command::Total {
+                    table,
+                    column,
+                    low,
+                    high,
+                },
+            ),
+        ) => Read::Total(
+            TotalAsked {
+                table: *table,
+                column: *column,
+                low: low.get(),
+                high: high.get(),
+            },
+            **total,
+        ),
         _ => Read::Nothing,
     }
 }
@@ -283,17 +318,19 @@ impl<'a> Sights<'a> {
     fn read_holds(
         &self,
         alloc: Global,
+        keys: &KeyList,
         replies: &[KeptReply<'a>],
         openings: &[Option<u32>],
         opening: usize,
         at: usize,
     ) -> Result<bool, AllocError>
+        requires keys { AreKeys (entries_of replies.now) keys.now }
         requires output { IsOutput openings.now (entries_of replies.now) }
         requires sights { AreSights openings.now (entries_of replies.now) (length replies.now)
             self.now }
         requires inside { at < length replies.now }
         requires told { are_told replies.now ≡ true }
-        requires judged { are_judged (entries_of replies.now) ≡ true }
+        requires bounded { are_bounded (entries_of replies.now) ≡ true }
         ensures { (none : Kept) → IfOk result (λ answer. answer
             ≡ read_holds (seen_up_to openings.now (entries_of replies.now) (length replies.now)
             opening at) (asked_at replies.now at none).command
@@ -310,6 +347,14 @@ impl<'a> Sights<'a> {
                 let rows = rows_in(alloc, lines)?.unwrap_or(Rows::from(Vec::new(alloc)));
                 Ok(self.are_rows(replies, openings, opening, at, table, rows.as_slice()))
             }
+            Read::Range(range, lines) => {
+                let rows = rows_in(alloc, lines)?.unwrap_or(Rows::from(Vec::new(alloc)));
+                let rows = rows.as_slice();
+                Ok(self.is_range(keys, replies, openings, opening, at, range, rows))
+            }
+            Read::Total(asked, told) => {
+                Ok(self.is_total(keys, replies, openings, opening, at, asked, told))
+            }
         }
     }
 
@@ -317,23 +362,25 @@ impl<'a> Sights<'a> {
     pub fn reads_hold(
         &self,
         alloc: Global,
+        keys: &KeyList,
         replies: &[KeptReply<'a>],
         openings: &[Option<u32>],
         at: usize,
     ) -> Result<bool, AllocError>
+        requires keys { AreKeys (entries_of replies.now) keys.now }
         requires output { IsOutput openings.now (entries_of replies.now) }
         requires sights { AreSights openings.now (entries_of replies.now) (length replies.now)
             self.now }
         requires inside { at < length replies.now }
         requires told { are_told replies.now ≡ true }
-        requires judged { are_judged (entries_of replies.now) ≡ true }
+        requires bounded { are_bounded (entries_of replies.now) ≡ true }
         ensures { (tables : List Table)
             → IfOk result (λ answer. IsJudgedBy
             (reads_hold (run_of tables (entries_of replies.now))) replies.now at answer) }
     {
         match opening_at(openings, at) {
             None => Ok(true),
-            Some(opening) => self.read_holds(alloc, replies, openings, opening, at),
+            Some(opening) => self.read_holds(alloc, keys, replies, openings, opening, at),
         }
     }
 }

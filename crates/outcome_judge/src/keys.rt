@@ -1,6 +1,7 @@
 //! By what writes are kept.
 ghost use Rattle.std.specs.Prelude.{◌≡◌};
 ghost use Rattle.outcome_judge.specs.HistoryKept.{place_in};
+ghost use Rattle.outcome_judge.specs.KeyLists.{row_key};
 ghost use Rattle.outcome_judge.specs.Spots.{spot_at};
 ghost use Rattle.outcome_judge.specs.Targets.{row_target, table_target};
 
@@ -9,6 +10,16 @@ ghost use Rattle.outcome_judge.specs.Targets.{row_target, table_target};
 pub struct RowKey {
     pub table: u32,
     pub key: i128,
+}
+
+/// The key of a table's row, of a key of 64 bits.
+pub(crate) fn row_key(table: u32, key: i64) -> RowKey
+    ensures { result ≡ row_key table key }
+{
+    RowKey {
+        table,
+        key: i128::from(key),
+    }
 }
 
 /// A place of one owner's writes: the commits are one owner, and each transaction is. They go by

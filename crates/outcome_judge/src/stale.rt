@@ -12,15 +12,17 @@ ghost use Rattle.outcome_counts.specs.Openings.{opened_at};
 ghost use Rattle.outcome_counts.specs.Written.{AreSpans};
 ghost use Rattle.outcome_spec.specs.Entries.{is_end, is_same};
 ghost use Rattle.outcome_spec.specs.Runs.{Span, accepted_write, run_of};
-ghost use Rattle.outcome_spec.specs.Stale.{begins_checked, shows_read};
+ghost use Rattle.outcome_spec.specs.Stale.{begins_checked, is_read, read_asked, read_of};
+ghost use Rattle.outcome_spec.specs.Stale.{read_told, shows_read};
+ghost use Rattle.outcome_judge.specs.KeyLists.{AreKeys};
 ghost use Rattle.outcome_judge.specs.Stale.{answers, commit_shown, commits_last, is_overtaken};
-ghost use Rattle.outcome_judge.specs.Stale.{is_stale, is_target, reads_stand, target_asked};
-ghost use Rattle.outcome_judge.specs.Stale.{target_named, target_told, tops_stand, was_read};
+ghost use Rattle.outcome_judge.specs.Stale.{is_stale, reads_stand, tops_stand, was_read};
 ghost use Rattle.outcome_judge.specs.Writers.{AreHeights, AreNumbered};
 ghost use Rattle.outcome_judge.specs.Threads.{told_by};
 
 use crate::commits::{Heights, Numbers, Transaction, is_before};
-use crate::keys::{RowKey, Target, row_target, table_target};
+use crate::key_list::KeyList;
+use isolation_spec::Read;
 use outcome_counts::spans::Spans;
 use outcome_counts::{Stretch, snapshot_told};
 use output_read::{KeptReply, Told};
@@ -34,7 +36,7 @@ pub(crate) enum Commit {
     /// The number as which it commits.
     As(u64),
     /// A stale read, and the number of the commit that wrote it.
-    Stale(Option<Target>, u64),
+    Stale(Read, u64),
 }
 
 /// What is asked of a reply of a transaction.
@@ -44,8 +46,8 @@ pub(crate) enum Question {
     Checked,
     /// Whether it accepts a write before another.
     Written,
-    /// Whether it tells of a read of a row or table before another.
-    Read(Target),
+    /// Whether it tells of a read before another.
+    Read(Read),
 }
 
 /// Whether both of two conditions hold.
@@ -55,25 +57,48 @@ pub(crate) fn both_hold(first: bool, second: bool) -> bool
     first && second
 }
 
-/// Whether the two are one.
-fn is_target(a: Target, b: Target) -> bool
-    ensures { result ≡ is_target a b }
+/// Whether the two are one read.
+fn is_read(a: Read, b: Read) -> bool
+    ensures { result ≡ is_read a b }
 {
-    a.table == b.table && a.whole == b.whole && a.key == b.key
+    match (a, b) {
+        (
+            Read::Key { table, key },
+            Read::Key {
+                table: of,
+                key: its,
+            },
+        ) => table == of && key == its,
+        (Read::Table { table }, Read::Table { table: of }) => table == of,
+        (
+            Read::Range { table, low, high },
+            Read::Range {
+                table: of,
+                low: from,
+                high: to,
+            },
+        ) => table == of && low == from && high == to,
+        _ => false,
+    }
 }
 
-/// The row or table that a command asks to read.
-fn target_asked(command: &Command) -> Option<Target>
-    ensures { result ≡ target_asked command.now }
+/// What a command asks to read.
+fn read_asked(command: &Command) -> Option<Read>
+    ensures { result ≡ read_asked command.now }
 {
     match command {
-        Command::Get { table, key } => Some(row_target(RowKey {
+        Command::Get { table, key } => Some(Read::Key {
             table: *table,
-            key: i128::from(*key),
-        })),
-        Command::Scan { table } => Some(table_target(*table)),
-        Command::Total { table, .. } => Some(table_target(*table)),
-        Command::Export { table } => Some(table_target(*table)),
+            key: *key,
+        }),
+        Command::Range { table, low, high } => Some(Read::Range {
+            table: *table,
+            low: *low,
+            high: *high,
+        }),
+        Command::Scan { table } | Command::Total { table, .. } | Command::Export { table } => {
+            Some(Read::Table { table: *table })
+        }
         _ => None,
     }
 }
@@ -89,30 +114,35 @@ fn shows_read(told: &Told<'_>) -> bool
     }
 }
 
-/// The row or table that the reply tells was read.
-fn target_told(reply: &KeptReply<'_>) -> Option<Target>
-    ensures { result ≡ target_told (entry_of reply.now) }
+/// What the reply tells was read.
+fn read_told(reply: &KeptReply<'_>) -> Option<Read>
+    ensures { let entry = entry_of reply.now in
+        result ≡ read_told entry.command entry.reply.said }
 {
     if !shows_read(&reply.told) {
         return None;
     }
     match reply.command {
         None => None,
-        Some(command) => target_asked(command),
+        Some(command) => read_asked(command),
     }
 }
 
-/// The row or table that a stale read is.
-fn target_named(read: &StaleRead) -> Option<Target>
-    ensures { result ≡ target_named read.now }
+/// The read that a reply names.
+fn read_of(read: &StaleRead) -> Read
+    ensures { result ≡ read_of read.now }
 {
     match read {
-        StaleRead::Key { table, key } => Some(row_target(RowKey {
+        StaleRead::Key { table, key } => Read::Key {
             table: *table,
-            key: i128::from(*key),
-        })),
-        StaleRead::Table { table } => Some(table_target(*table)),
-        StaleRead::Range { .. } => None,
+            key: *key,
+        },
+        StaleRead::Table { table } => Read::Table { table: *table },
+        StaleRead::Range { table, low, high } => Read::Range {
+            table: *table,
+            low: *low,
+            high: *high,
+        },
     }
 }
 
@@ -121,7 +151,7 @@ fn commit_shown(reply: &KeptReply<'_>) -> Commit
     ensures { result ≡ commit_shown (entry_of reply.now).reply.said }
 {
     match &reply.told {
-        Told::Stale(stale) => Commit::Stale(target_named(&stale.read), stale.number),
+        Told::Stale(stale) => Commit::Stale(read_of(&stale.read), stale.number),
         Told::Committed(Some(number)) => Commit::As(*number),
         _ => Commit::None,
     }
@@ -150,13 +180,14 @@ fn accepts_write(reply: &KeptReply<'_>) -> bool
     }
 }
 
-/// Whether the reply tells of a read of the row or table.
-fn tells_read(reply: &KeptReply<'_>, of: Target) -> bool
-    ensures { result ≡ option_map_or (is_target of) (target_told (entry_of reply.now)) false }
+/// Whether the reply tells of the read.
+fn tells_read(reply: &KeptReply<'_>, what: Read) -> bool
+    ensures { let entry = entry_of reply.now in
+        result ≡ option_map_or (is_read what) (read_told entry.command entry.reply.said) false }
 {
-    match target_told(reply) {
+    match read_told(reply) {
         None => false,
-        Some(its) => is_target(of, its),
+        Some(its) => is_read(what, its),
     }
 }
 
@@ -167,7 +198,7 @@ fn answers(reply: &KeptReply<'_>, by: &KeptReply<'_>, question: Question) -> boo
     match question {
         Question::Checked => begins_checked(reply) && snapshot_told(reply).is_some(),
         Question::Written => accepts_write(reply) && is_before(reply, by),
-        Question::Read(of) => tells_read(reply, of) && is_before(reply, by),
+        Question::Read(what) => tells_read(reply, what) && is_before(reply, by),
     }
 }
 
@@ -217,31 +248,38 @@ fn is_answered(replies: &[KeptReply<'_>], opening: usize, at: usize, question: Q
     false
 }
 
-/// Whether the row or table was read in the transaction that is opened at a place, before the
-/// reply at another, and the transaction is checked and has written.
-fn was_read(replies: &[KeptReply<'_>], opening: usize, at: usize, of: Target) -> bool
+/// Whether the read was made in the transaction that is opened at a place, before the reply at
+/// another, and the transaction is checked and has written.
+fn was_read(replies: &[KeptReply<'_>], opening: usize, at: usize, what: Read) -> bool
     requires opened { opening < length replies.now }
     requires inside { at < length replies.now }
     ensures { (none : Kept) (t : Span) → opened_at opening (entries_of replies.now) ≡ Some t
-        → result ≡ was_read t (asked_at replies.now at none) of }
+        → result ≡ was_read t (asked_at replies.now at none) what }
 {
     let checked = is_answered(replies, opening, at, Question::Checked);
     let written = is_answered(replies, opening, at, Question::Written);
-    let read = is_answered(replies, opening, at, Question::Read(of));
+    let read = is_answered(replies, opening, at, Question::Read(what));
     both_hold(both_hold(checked, written), read)
 }
 
 impl Numbers {
-    /// Whether a later commit wrote what the reply tells was read.
-    fn is_overtaken(&self, replies: &[KeptReply<'_>], place: usize, t: Transaction) -> bool
+    /// Whether a later commit wrote into what the reply tells was read.
+    fn is_overtaken(
+        &self,
+        keys: &KeyList,
+        replies: &[KeptReply<'_>],
+        place: usize,
+        t: Transaction,
+    ) -> bool
+        requires keys { AreKeys (entries_of replies.now) keys.now }
         requires written { AreNumbered (entries_of replies.now) self.now }
         requires inside { place < length replies.now }
         ensures { (none : Kept) → result
             ≡ is_overtaken (entries_of replies.now) t (asked_at replies.now place none) }
     {
-        match target_told(&replies[place]) {
+        match read_told(&replies[place]) {
             None => false,
-            Some(of) => !self.is_first(replies, of, t),
+            Some(what) => !self.is_first_read(keys, replies, what, t),
         }
     }
 
@@ -249,11 +287,13 @@ impl Numbers {
     /// that the transaction ends and none is; none where it goes on.
     fn overtaken_by(
         &self,
+        keys: &KeyList,
         replies: &[KeptReply<'_>],
         place: usize,
         who: Who,
         t: Transaction,
     ) -> Option<bool>
+        requires keys { AreKeys (entries_of replies.now) keys.now }
         requires written { AreNumbered (entries_of replies.now) self.now }
         requires inside { place < length replies.now }
         ensures { (none : Kept) → result ≡ told_by who (is_overtaken (entries_of replies.now) t)
@@ -262,7 +302,7 @@ impl Numbers {
         if !is_own(&replies[place], who) {
             return None;
         }
-        if self.is_overtaken(replies, place, t) {
+        if self.is_overtaken(keys, replies, place, t) {
             return Some(true);
         }
         if is_end(&replies[place]) {
@@ -272,8 +312,15 @@ impl Numbers {
         }
     }
 
-    /// Whether a later commit wrote what the transaction read that is opened at a place.
-    fn are_overtaken(&self, replies: &[KeptReply<'_>], opening: usize, t: Transaction) -> bool
+    /// Whether a later commit wrote into what the transaction read that is opened at a place.
+    fn are_overtaken(
+        &self,
+        keys: &KeyList,
+        replies: &[KeptReply<'_>],
+        opening: usize,
+        t: Transaction,
+    ) -> bool
+        requires keys { AreKeys (entries_of replies.now) keys.now }
         requires written { AreNumbered (entries_of replies.now) self.now }
         requires opened { opening < length replies.now }
         ensures { (span : Span) → opened_at opening (entries_of replies.now) ≡ Some span
@@ -281,7 +328,7 @@ impl Numbers {
     {
         let who = replies[opening].who;
         for place in opening..replies.len() {
-            if let Some(answer) = self.overtaken_by(replies, place, who, t) {
+            if let Some(answer) = self.overtaken_by(keys, replies, place, who, t) {
                 return answer;
             }
         }
@@ -291,23 +338,25 @@ impl Numbers {
     /// Whether a stale read was read, and is named with a number of its own.
     fn is_stale(
         &self,
+        keys: &KeyList,
         replies: &[KeptReply<'_>],
         opening: usize,
         at: usize,
-        of: Target,
+        what: Read,
         snapshot: u64,
         number: u64,
     ) -> bool
+        requires keys { AreKeys (entries_of replies.now) keys.now }
         requires written { AreNumbered (entries_of replies.now) self.now }
         requires opened { opening < length replies.now }
         requires inside { at < length replies.now }
         ensures { (none : Kept) (tables : List TableDecl) (t : Span)
             → opened_at opening (entries_of replies.now) ≡ Some t → t.snapshot ≡ snapshot
             → result ≡ is_stale (run_of tables (entries_of replies.now)) t
-            (asked_at replies.now at none) of number }
+            (asked_at replies.now at none) what number }
     {
-        let read = was_read(replies, opening, at, of);
-        let named = self.is_named(replies, at, of, snapshot, number);
+        let read = was_read(replies, opening, at, what);
+        let named = self.is_named_read(keys, replies, at, what, snapshot, number);
         both_hold(read, named)
     }
 
@@ -315,12 +364,14 @@ impl Numbers {
     /// another: it isn't checked, or none of its reads is overtaken.
     fn commits_last(
         &self,
+        keys: &KeyList,
         replies: &[KeptReply<'_>],
         opening: usize,
         at: usize,
         snapshot: u64,
         number: u64,
     ) -> bool
+        requires keys { AreKeys (entries_of replies.now) keys.now }
         requires written { AreNumbered (entries_of replies.now) self.now }
         requires opened { opening < length replies.now }
         requires inside { at < length replies.now }
@@ -336,12 +387,19 @@ impl Numbers {
         if !is_answered(replies, opening, at, Question::Checked) {
             return true;
         }
-        !self.are_overtaken(replies, opening, t)
+        !self.are_overtaken(keys, replies, opening, t)
     }
 
     /// Whether the reply keeps what is asked of the reads of its transaction and of the numbers of
     /// commits.
-    pub(crate) fn reads_stand(&self, spans: &Spans, replies: &[KeptReply<'_>], at: usize) -> bool
+    pub(crate) fn reads_stand(
+        &self,
+        keys: &KeyList,
+        spans: &Spans,
+        replies: &[KeptReply<'_>],
+        at: usize,
+    ) -> bool
+        requires keys { AreKeys (entries_of replies.now) keys.now }
         requires written { AreNumbered (entries_of replies.now) self.now }
         requires spans { AreSpans (entries_of replies.now) (length replies.now) spans.now }
         requires outside { OpensOutside (entries_of replies.now) }
@@ -356,10 +414,11 @@ impl Numbers {
         let snapshot = spans.snapshot_of(replies, opening);
         match commit_shown(&replies[at]) {
             Commit::None => true,
-            Commit::As(number) => self.commits_last(replies, opening, at, snapshot, number),
-            Commit::Stale(None, _) => false,
-            Commit::Stale(Some(of), number) => {
-                self.is_stale(replies, opening, at, of, snapshot, number)
+            Commit::As(number) => {
+                self.commits_last(keys, replies, opening, at, snapshot, number)
+            }
+            Commit::Stale(what, number) => {
+                self.is_stale(keys, replies, opening, at, what, snapshot, number)
             }
         }
     }
@@ -369,11 +428,13 @@ impl Heights {
     /// Whether the reply keeps what is asked of how high the commits are that wrote a stale read.
     pub(crate) fn tops_stand(
         &self,
+        keys: &KeyList,
         spans: &Spans,
         replies: &[KeptReply<'_>],
         at: usize,
         stretch: &Stretch,
     ) -> bool
+        requires keys { AreKeys (entries_of replies.now) keys.now }
         requires written { AreHeights (entries_of replies.now) self.now }
         requires spans { AreSpans (entries_of replies.now) (length replies.now) spans.now }
         requires asked { IsAsked replies.now at stretch.now }
@@ -388,8 +449,9 @@ impl Heights {
         match commit_shown(&replies[at]) {
             Commit::None => true,
             Commit::As(_) => true,
-            Commit::Stale(None, _) => true,
-            Commit::Stale(Some(of), number) => self.is_highest(replies, at, stretch, of, number),
+            Commit::Stale(what, number) => {
+                self.is_highest_read(keys, replies, at, stretch, what, number)
+            }
         }
     }
 }

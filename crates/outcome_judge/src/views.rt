@@ -2,8 +2,9 @@
 ghost use Rattle.std.specs.Prelude.{◌≡◌, ◌<◌, ◌≤◌, IfOk, List, length, true};
 ghost use Rattle.cell_model.specs.declared.table.TableDecl.{TableDecl};
 ghost use Rattle.outcome_counts.specs.Asked.{IsJudgedBy};
-ghost use Rattle.outcome_judge.specs.Asked.{are_judged};
+ghost use Rattle.outcome_judge.specs.Asked.{are_bounded};
 ghost use Rattle.outcome_judge.specs.Exports.{AreExports};
+ghost use Rattle.outcome_judge.specs.KeyLists.{AreKeys};
 ghost use Rattle.outcome_judge.specs.Seen.{AreSights, IsOutput};
 ghost use Rattle.outcome_spec.specs.Runs.{run_of};
 ghost use Rattle.outcome_spec.specs.Upkeep.{exports_hold};
@@ -11,6 +12,7 @@ ghost use Rattle.output_read.specs.Kept.{are_told, entries_of};
 ghost use Rattle.outcome_judge.specs.Judged.{EndsAt, accesses_hold};
 
 use crate::exports::Exports;
+use crate::key_list::KeyList;
 use crate::sights::Sights;
 use outcome_counts::stretch_behind;
 use output_read::KeptReply;
@@ -45,21 +47,23 @@ pub(crate) fn exports_end<'a>(
 fn accesses_hold<'a>(
     alloc: Global,
     sights: &Sights<'a>,
+    keys: &KeyList,
     replies: &[KeptReply<'a>],
     openings: &[Option<u32>],
     at: usize,
 ) -> Result<bool, AllocError>
+    requires keys { AreKeys (entries_of replies.now) keys.now }
     requires output { IsOutput openings.now (entries_of replies.now) }
     requires sights { AreSights openings.now (entries_of replies.now) (length replies.now)
         sights.now }
     requires inside { at < length replies.now }
     requires told { are_told replies.now ≡ true }
-    requires judged { are_judged (entries_of replies.now) ≡ true }
+    requires bounded { are_bounded (entries_of replies.now) ≡ true }
     ensures { (tables : List TableDecl)
         → IfOk result (λ answer. IsJudgedBy (accesses_hold (run_of tables (entries_of replies.now)))
         replies.now at answer) }
 {
-    let reads = sights.reads_hold(alloc, replies, openings, at)?;
+    let reads = sights.reads_hold(alloc, keys, replies, openings, at)?;
     if !reads {
         return Ok(false);
     }
@@ -71,22 +75,24 @@ fn accesses_hold<'a>(
 pub(crate) fn accesses_end<'a>(
     alloc: Global,
     sights: &Sights<'a>,
+    keys: &KeyList,
     replies: &[KeptReply<'a>],
     openings: &[Option<u32>],
     until: usize,
 ) -> Result<usize, AllocError>
+    requires keys { AreKeys (entries_of replies.now) keys.now }
     requires output { IsOutput openings.now (entries_of replies.now) }
     requires sights { AreSights openings.now (entries_of replies.now) (length replies.now)
         sights.now }
     requires told { are_told replies.now ≡ true }
-    requires judged { are_judged (entries_of replies.now) ≡ true }
+    requires bounded { are_bounded (entries_of replies.now) ≡ true }
     requires within { until ≤ length replies.now }
     ensures { (tables : List TableDecl)
         → IfOk result (EndsAt (accesses_hold (run_of tables (entries_of replies.now))) replies.now
         until) }
 {
     for at in 0..until {
-        if !accesses_hold(alloc, sights, replies, openings, at)? {
+        if !accesses_hold(alloc, sights, keys, replies, openings, at)? {
             return Ok(at);
         }
     }

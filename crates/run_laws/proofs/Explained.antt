@@ -13,6 +13,8 @@ pub mod Exporting
 pub mod Walk
 pub mod Conflicting
 pub mod Answering
+pub mod Totals
+pub mod Ranging
 pub mod Standing
 pub mod Explaining
 pub mod Staling

@@ -1,4 +1,3 @@
-pub mod Permuted
 pub mod Clean
 pub mod Groups
 pub mod Told

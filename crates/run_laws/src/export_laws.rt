@@ -2,14 +2,8 @@
 ghost use Rattle.run_laws.specs.Exports.Calls.{AllReadsAreAnExport, RefusedExportsReadNothing};
 ghost use Rattle.run_laws.specs.Exports.Calls.{SomeReadsAreAnExport};
 ghost use Rattle.run_laws.specs.Exports.Laws.{ExportsAreSaid, NothingSaysNothing};
-ghost use Rattle.run_laws.specs.Exports.Laws.{OrderedRowsAreTheRows, RunsSayAllSent};
-ghost use Rattle.run_laws.specs.Exports.Laws.{SendingGoesOn, SendingsJoin};
+ghost use Rattle.run_laws.specs.Exports.Laws.{RunsSayAllSent, SendingGoesOn, SendingsJoin};
 ghost use Rattle.run_laws.specs.Exports.Laws.{WithoutAnExportNothingIsSent};
-
-/// Rows that are as many as they are in the order of their keys are the same rows.
-pub fn ordered_rows_are_the_rows()
-    ensures { OrderedRowsAreTheRows }
-{}
 
 /// In whatever order the sessions of a run went on, its printed lines say what its export sent.
 pub fn exports_are_said()

@@ -98,8 +98,8 @@ by_own own events = option_map_or events own []
 
 -- All events of a session's command, in order. `own` is what the session has open, `reads` what
 -- that read where it is checked, and `made` are the events that were made: the parts before the
--- first of them, an `oldest` and looks decide on later ones. A commit hands in the reads. A range
--- and a total read each block, as a scan does.
+-- first of them, an `oldest` and looks decide on later ones. A commit hands in the reads. A total
+-- reads each block, as a scan does.
 abbrev pub events_of
     : Shape → Option OwnTransaction → Option ReadSet → ℕ → Command → List Occurrence
     → List CoreEvent
@@ -109,7 +109,7 @@ events_of shape own reads session (command.Get table key) made =
 events_of shape own reads session (command.Scan table) made =
     by_own own (λ t. at_blocks shape table (event.Read t table))
 events_of shape own reads session (command.Range table low high) made =
-    by_own own (λ t. at_blocks shape table (event.Read t table))
+    by_own own (λ t. event.Range t table low high ∷ [])
 events_of shape own reads session (command.Total table column low high) made =
     by_own own (λ t. at_blocks shape table (event.Read t table))
 events_of shape own reads session (command.Insert table row) made =

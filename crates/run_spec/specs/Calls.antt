@@ -59,6 +59,7 @@ is_final (event.Insert own table row) = true
 is_final (event.Update own table row) = true
 is_final (event.Delete own table key) = true
 is_final (event.Read own table block) = false
+is_final (event.Range own table low high) = false
 is_final (event.Commit own reads) = false
 is_final (event.Abort own) = false
 is_final event.Oldest = false

@@ -1,11 +1,12 @@
 -- Worked examples of checked transactions: which reads their calls keep, and what a commit that was
 -- refused for one of them leaves.
-use Rattle.std.specs.Prelude.{pos, true, false, List, [], ◌∷◌, Option, None, Some}
+use Rattle.std.specs.Prelude.{ℕ, pos, true, false, List, [], ◌∷◌, map, Option, None, Some}
 use Rattle.event_spec.specs.declared.event.Event.TheVariants as event
 use Rattle.event_spec.specs.declared.reply.Reply.TheVariants as reply
 use Rattle.event_spec.specs.Replies.{CoreReply}
 use Rattle.isolation_spec.specs.Contents.{place_at}
 use Rattle.isolation_spec.specs.Reads.{ReadSet, no_reads}
+use Rattle.isolation_spec.specs.declared.read.KeyRange.{KeyRange}
 use Rattle.isolation_spec.specs.declared.read.Read.TheVariants as read
 use Rattle.workload_spec.specs.declared.command.Command.{Command}
 use Rattle.workload_spec.specs.declared.command.Command.TheVariants as command
@@ -114,3 +115,33 @@ TablesAreReadWhole =
     ∷ call get [] said.NoTransaction
     ∷ [])
     × (Kept nothing (scans nothing ∷ behind nothing (command.Export 0) [] said.Memory ∷ []) → ⊥)
+
+-- A range is read where it was answered with its rows, also with none. Ranges stand in the order of
+-- their calls, one that was read again again.
+abbrev pub range : ℕ → Option ReadSet → Said → Call
+range low kept told = behind kept (command.Range 0 (pos low) (pos 9)) [] told
+
+abbrev pub from : ℕ → KeyRange
+from low = record { table = 0; low = pos low; high = pos 9 }
+
+abbrev pub read_from : List ℕ → Option ReadSet
+read_from lows = Some (record no_reads { ranges = map from lows })
+
+abbrev pub RangesAreReadInOrder : Type 0
+RangesAreReadInOrder =
+    Kept
+    nothing
+    (range 7 nothing (said.Scanned [])
+    ∷ range 5 (read_from (7 ∷ [])) said.Memory
+    ∷ range 5 (read_from (7 ∷ [])) (said.Scanned [])
+    ∷ range 7 (read_from (7 ∷ 5 ∷ [])) (said.Scanned [])
+    ∷ behind
+    (read_from (7 ∷ 5 ∷ 7 ∷ []))
+    command.Commit
+    []
+    (said.Stale (stale.Range 0 (pos 5) (pos 9)) 4)
+    ∷ behind (read_from (7 ∷ 5 ∷ 7 ∷ [])) command.Abort [] said.Aborted
+    ∷ [])
+    × Kept None (range 7 None (said.Scanned []) ∷ range 7 None (said.Scanned []) ∷ [])
+    × (Kept nothing (range 7 nothing (said.Scanned []) ∷ range 5 nothing (said.Scanned []) ∷ [])
+    → ⊥)

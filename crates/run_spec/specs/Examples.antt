@@ -156,7 +156,7 @@ OthersDoNot = (parts later : Parts) → imaged_block shape 0 (pos 5) parts ≡ N
     → Tells update (updates parts) said.Accepted
     × (Tells update (thaws parts reply.Thawed ++ updates later) said.Accepted → ⊥)
 
--- ---- scans and exports
+-- ---- scans
 
 -- reads of the blocks in order, with these replies
 abbrev pub reads : List CoreReply → List Occurrence
@@ -173,6 +173,32 @@ ScansReadEachBlock =
     Tells (command.Scan 0) (reads replies) (said.Scanned (rows (2 ∷ 5 ∷ 6 ∷ 7 ∷ [])))
     × (Tells (command.Scan 0) (reads replies) (said.Scanned (rows (7 ∷ 2 ∷ 5 ∷ 6 ∷ []))) → ⊥)
     × (Tells (command.Scan 0) (reads (take 1 replies)) (said.Scanned (rows (2 ∷ 7 ∷ []))) → ⊥)
+
+-- ---- ranges
+
+abbrev pub range : Command
+range = command.Range 0 (pos 3) (pos 6)
+
+abbrev pub ranges : ℕ → CoreReply → List Occurrence
+ranges high told = by 1 (event.Range (own []) 0 (pos 3) (pos high)) told ∷ []
+
+-- A range is one event with the bounds that were asked, and its line has the rows by their keys. It
+-- may be empty, and it needs a transaction.
+abbrev pub RangesAreOneEvent : Type 0
+RangesAreOneEvent =
+    let three = reply.Rows (rows (6 ∷ 3 ∷ 5 ∷ [])) in
+    let line = said.Scanned (rows (3 ∷ 5 ∷ 6 ∷ [])) in
+    Tells range (ranges 6 three) line
+    × Tells range (ranges 6 (reply.Rows [])) (said.Scanned [])
+    × Tells range (ranges 6 reply.Memory) said.Memory
+    × Tells (command.Range 0 (pos 3) (pos 2)) (ranges 2 (reply.Rows [])) (said.Scanned [])
+    × IsCall shape false 1 [] (call range [] said.NoTransaction)
+    × (Tells range (ranges 6 three) (said.Scanned (rows (6 ∷ 3 ∷ 5 ∷ []))) → ⊥)
+    × (Tells range (ranges 7 three) line → ⊥)
+    × (Tells range (reads (three ∷ reply.Rows [] ∷ [])) line → ⊥)
+    × (Tells range [] (said.Scanned []) → ⊥)
+
+-- ---- exports
 
 abbrev pub exports : List CoreReply → Said → Type 0
 exports replies told = Tells (command.Export 0) (reads replies) told

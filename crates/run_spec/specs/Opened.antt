@@ -2,13 +2,13 @@
 use Rattle.std.specs.Prelude.{ℕ, ℤ, ◌==◌, List, [], Option, None, Some, option_map, find, fold}
 use Rattle.std.specs.BTreeMap.{insert_entry}
 use Rattle.event_spec.specs.declared.event.Event.TheVariants as event
-use Rattle.event_spec.specs.declared.own.OwnKey.{OwnKey}
 use Rattle.event_spec.specs.declared.own.OwnTransaction.{OwnTransaction}
 use Rattle.event_spec.specs.declared.reply.Reply.TheVariants as reply
 use Rattle.event_spec.specs.Effects.{CoreEvent}
+pub use Rattle.event_spec.specs.Judged.{own_key}
 use Rattle.event_spec.specs.Replies.{CoreReply}
 use Rattle.isolation_spec.specs.declared.place.Place.{Place}
-use Rattle.isolation_spec.specs.Contents.{place_cmp, at_place, place_at, place_of}
+use Rattle.isolation_spec.specs.Contents.{place_cmp, place_at, place_of}
 use Rattle.run_spec.specs.Occurrences.{Occurrence}
 
 -- A begin opens a transaction, with the snapshot that it replied.
@@ -57,6 +57,7 @@ own_behind own (event.Update handed table row) told =
 own_behind own (event.Delete handed table key) told =
     option_map (with_own (place_at table key) told) own
 own_behind own (event.Read handed table block) told = own
+own_behind own (event.Range handed table low high) told = own
 own_behind own (event.Commit handed reads) told = committed_by own told
 own_behind own (event.Abort handed) told = None
 own_behind own event.Oldest told = own
@@ -73,14 +74,6 @@ own_behind own (event.Thaw table block) told = own
 abbrev pub own_after : List Occurrence → Option OwnTransaction
 own_after front =
     fold (λ own occurrence. own_behind own occurrence.event occurrence.reply) None front
-
--- what an event on one key is handed of it
-abbrev pub own_key : ℕ → ℤ → OwnTransaction → OwnKey
-own_key table key own = record {
-  session = own.session;
-  snapshot = own.snapshot;
-  written = at_place own.writes (place_at table key);
-}
 
 -- the least key of a table that a transaction wrote
 abbrev pub least_written : ℕ → OwnTransaction → Option ℤ

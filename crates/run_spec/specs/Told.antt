@@ -1,8 +1,7 @@
 -- The line that is made of the replies to a command's events. One table lists it for all commands.
-use Rattle.std.specs.Prelude.{ℕ, ℤ, Bool, true, false, List, [], ◌∷◌, count_by, sum_by, fold}
+use Rattle.std.specs.Prelude.{ℕ, ℤ, Bool, true, false, List, [], ◌∷◌, count_by, sum_by}
 use Rattle.std.specs.Prelude.{length, Option, None, Some, is_none, option_map, option_and_then}
 use Rattle.std.specs.Prelude.{if◌then◌else◌}
-use Rattle.std.specs.BTreeMap.{insert_entry}
 use Rattle.std.specs.List.{flat_map, last_or}
 use Rattle.block_spec.specs.declared.phase.SealFault.{SealFault}
 use Rattle.block_spec.specs.declared.phase.SealFault.TheVariants as fault
@@ -12,8 +11,8 @@ use Rattle.event_spec.specs.declared.reply.Reply.TheVariants as reply
 use Rattle.event_spec.specs.declared.reply.WriteFault.{WriteFault}
 use Rattle.event_spec.specs.declared.reply.WriteFault.TheVariants as refusal
 use Rattle.event_spec.specs.Replies.{CoreReply}
-use Rattle.isolation_spec.specs.Contents.{State, place_cmp, contents_between, contents_of}
-use Rattle.isolation_spec.specs.Contents.{numbers_between, place_of, sum_of}
+pub use Rattle.event_spec.specs.Replies.{by_place, in_key_order}
+use Rattle.isolation_spec.specs.Contents.{numbers_between, sum_of}
 pub use Rattle.timeline_spec.specs.Timeline.{stale_of}
 use Rattle.workload_spec.specs.declared.command.Command.{Command}
 use Rattle.workload_spec.specs.declared.command.Command.TheVariants as command
@@ -76,8 +75,9 @@ abbrev pub row_told : Option Row → Said
 row_told None = said.Absent
 row_told (Some row) = said.Found row
 
--- What a reply says by itself, to a command of this table and block. A block's read, count, look or
--- move is a part of what its command's line says, and an `oldest` and a thaw are in no line.
+-- What a reply says by itself, to a command of this table and block. Rows that were read, and a
+-- block's count, look or move, are a part of what the command's line says, and an `oldest` and a
+-- thaw are in no line.
 abbrev pub told_by : ℕ → ℕ → CoreReply → Option Said
 told_by table block (reply.Begun snapshot) = Some (said.At snapshot.number)
 told_by table block (reply.Found row) = Some (row_told row)
@@ -106,7 +106,7 @@ last_told table block replies = option_and_then (told_by table block) (last_or N
 
 -- ---- what replies say together
 
--- the rows of a read, and whether the block was imaged at it
+-- the rows of a read or a range, and whether the block was imaged at its read
 abbrev pub rows_told : CoreReply → List Row
 rows_told (reply.Rows rows) = rows
 rows_told (reply.Shared rows) = rows
@@ -133,19 +133,6 @@ abbrev pub moved_told : CoreReply → ℕ
 moved_told (reply.Moved count) = count
 moved_told _ = 0
 
--- rows of a table, by their places
-abbrev pub by_place : ℕ → List Row → State
-by_place table rows =
-    fold (λ state row. insert_entry place_cmp state (place_of table row) row) [] rows
-
--- rows of a table in the order of their keys, and those of them whose keys lie between two, both
--- counted
-abbrev pub in_key_order : ℕ → List Row → List Row
-in_key_order table rows = contents_of table (by_place table rows)
-
-abbrev pub rows_between : ℕ → ℤ → ℤ → List Row → List Row
-rows_between table low high rows = contents_between table low high (by_place table rows)
-
 -- how many numbers there are, and their sum
 abbrev pub total_told : List ℤ → Said
 total_told numbers = said.Totalled (length numbers) (sum_of numbers)
@@ -168,7 +155,7 @@ line_of own (command.Get table key) replies = last_told table 0 replies
 line_of own (command.Scan table) replies =
     Some (said.Scanned (in_key_order table (flat_map rows_told replies)))
 line_of own (command.Range table low high) replies =
-    Some (said.Scanned (rows_between table low high (flat_map rows_told replies)))
+    Some (said.Scanned (in_key_order table (flat_map rows_told replies)))
 line_of own (command.Total table column low high) replies =
     Some (total_told (numbers_between column low high (flat_map rows_told replies)))
 line_of own (command.Insert table row) replies = last_told table 0 replies

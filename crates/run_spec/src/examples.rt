@@ -1,10 +1,11 @@
 //! Worked examples of calls: each is a fact that the definitions compute.
 ghost use Rattle.run_spec.specs.RunExamples.{ExportsBesideAWorker};
 ghost use Rattle.run_spec.specs.LendExamples.{LendsStandForReads};
-ghost use Rattle.run_spec.specs.CheckedExamples.{StaleCommitsEndNothing, TablesAreReadWhole};
+ghost use Rattle.run_spec.specs.CheckedExamples.{RangesAreReadInOrder, StaleCommitsEndNothing};
+ghost use Rattle.run_spec.specs.CheckedExamples.{TablesAreReadWhole};
 ghost use Rattle.run_spec.specs.Examples.{GetsTellTheRow, WritesAreTheTransactions};
 ghost use Rattle.run_spec.specs.Examples.{ChangesThawFirst, OthersDoNot, ScansReadEachBlock};
-ghost use Rattle.run_spec.specs.Examples.{ExportsCountImages, PrunesGoBlockByBlock};
+ghost use Rattle.run_spec.specs.Examples.{ExportsCountImages, PrunesGoBlockByBlock, RangesAreOneEvent};
 ghost use Rattle.run_spec.specs.Examples.{CompactionsMoveAllPairs, WorkersTakeTurns};
 
 /// A get is one event, and its line is the row or that there is none.
@@ -28,6 +29,11 @@ pub fn tables_are_read_whole()
     ensures { TablesAreReadWhole }
 {}
 
+/// Ranges are read where they were answered with rows, and stand in the order of their calls.
+pub fn ranges_are_read_in_order()
+    ensures { RangesAreReadInOrder }
+{}
+
 /// A change thaws the imaged block in which the key's row lies, and no other block.
 pub fn changes_thaw_first()
     ensures thaws { ChangesThawFirst }
@@ -37,6 +43,11 @@ pub fn changes_thaw_first()
 /// A scan reads each block, and its line has the rows by their keys.
 pub fn scans_read_each_block()
     ensures { ScansReadEachBlock }
+{}
+
+/// A range is one event, and its line has the rows by their keys.
+pub fn ranges_are_one_event()
+    ensures { RangesAreOneEvent }
 {}
 
 /// An export counts rows, batches, and the blocks that were imaged at their read.

@@ -26,7 +26,7 @@ use crate::words::{next_word, no_word};
 use cell_model::{Cell, Column, Row, Values};
 use std::alloc::Global;
 use word_read::{natural, word_behind, word_count};
-use workload_spec::{Cause, Command, Commands, Extent, Line};
+use workload_spec::{Bound, Cause, Command, Commands, Extent, Line};
 
 /// The line of a round that the bytes are: one of so many sessions and a command; an export only
 /// where none was before.
@@ -125,7 +125,7 @@ fn command_by(
         }),
         Verb::Export => table_in(tables, words).map(|table| Command::Export { table }),
         Verb::Range => range_in(tables, words),
-        Verb::Total => total_in(tables, words),
+        Verb::Total => total_in(alloc, tables, words),
     }
 }
 
@@ -162,7 +162,7 @@ fn range_in(tables: &Declared, words: &[u8]) -> Result<Command, WordFault>
 }
 
 /// The total of the column and between the two numbers that the words behind the table's name.
-fn total_in(tables: &Declared, words: &[u8]) -> Result<Command, WordFault>
+fn total_in(alloc: Global, tables: &Declared, words: &[u8]) -> Result<Command, WordFault>
     requires { length tables.now < 2 ^ 32 }
     ensures { Gives (λ made. made) result (formed tables.now OfTotal (words_behind words.now)) }
 {
@@ -178,8 +178,8 @@ fn total_in(tables: &Declared, words: &[u8]) -> Result<Command, WordFault>
     Ok(Command::Total {
         table,
         column,
-        low,
-        high,
+        low: Bound::new(alloc, low)?,
+        high: Bound::new(alloc, high)?,
     })
 }
 

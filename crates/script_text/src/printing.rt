@@ -141,7 +141,7 @@ fn put_command(out: &mut Vec<u8>, tables: &[TableDecl], command: &Command) -> Re
             column,
             low,
             high,
-        } => put_total(out, tables, *table, *column, *low, *high),
+        } => put_total(out, tables, *table, *column, low.get(), high.get()),
         Command::Insert { table, row } => put_of_row(out, b"insert", tables, *table, row),
         Command::Update { table, row } => put_of_row(out, b"update", tables, *table, row),
         Command::Delete { table, key } => put_of_key(out, b"delete", tables, *table, *key),

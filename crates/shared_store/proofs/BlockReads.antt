@@ -1,9 +1,10 @@
 -- What a read of a block tells: its rows fit the table, and are no more than the block's slots.
-use Rattle.std.proofs.Common.{◌≡◌, ◌⊎◌, ℕ, ◌≤◌, Bool, true, false, cond, List, [], ◌∷◌, ◌++◌, Option, None, Some, length, option_and_then, sym, ap, subst, ◌∙◌, arith}
+use Rattle.std.proofs.Common.{◌≡◌, ◌⊎◌, ℕ, ℤ, ◌≤◌, Bool, true, false, cond, List, [], ◌∷◌, ◌++◌, Option, None, Some, length, option_and_then, sym, ap, subst, ◌∙◌, arith}
 use Rattle.std.proofs.lemmas.List.{map-append}
 use mathlib.Core.Logic.{inl, inr}
 use Rattle.std.specs.Prelude.{All, IfSome, filter_map, fold}
 use Rattle.std.specs.List.{cons_option}
+use Rattle.std.specs.Option.{option_or}
 use Rattle.std.proofs.lemmas.List.Elements.{All-cons, All-head, All-nil, All-tail}
 use Rattle.std.proofs.lemmas.List.FromFn.{length-range_with_len}
 use Rattle.block_layout.specs.Place.{place_of}
@@ -14,8 +15,11 @@ use Rattle.cell_model.specs.Rows.{Fits}
 use Rattle.core_laws.proofs.Events.Fitting.{current_fits, seen_fits, versions_fit}
 use Rattle.event_spec.specs.declared.own.OwnTransaction.{OwnTransaction}
 use Rattle.event_spec.specs.declared.reply.Reply.TheVariants as reply
+use Rattle.event_spec.specs.declared.own.OwnKey.{OwnKey}
+use Rattle.event_spec.specs.Effects.{found, range_found, range_keys}
+use Rattle.event_spec.specs.Judged.{first_at, found_at, own_key}
 use Rattle.event_spec.specs.Lawful.{HasBlock}
-use Rattle.event_spec.specs.Parts.{Parts, Shape, below, body_at, slot_at, slots_of}
+use Rattle.event_spec.specs.Parts.{Parts, Shape, below, body_at, places_at, slot_at, slots_of}
 use Rattle.event_spec.specs.Replay.{IsLawfulFrom, IsLawfulLog, Made, after, columns_in, opening}
 use Rattle.event_spec.specs.Replies.{CoreReply, is_elsewhere, reply_to_read, row_read, rows_read}
 use Rattle.event_spec.specs.SlotSound.{VersionsFit}
@@ -116,6 +120,33 @@ module _ (sh : Shape) (s : Parts) (ok : Sound sh s) (own : OwnTransaction) (t b 
       go : (imaged : Bool) → length (rows_told (cond imaged (reply.Shared (rows_of (body_at sh s t b))) (reply.Rows (rows_read sh s own t b)))) ≤ slots_of sh t
       go true = image
       go false = rows
+
+-- ---- a range
+
+module _ (sh : Shape) (s : Parts) (ok : Sound sh s) (t : ℕ) where
+  -- The row that is found at a key, if there is one, fits the table's columns.
+  key_fits : (own : OwnKey) (key : ℤ) → IfSome (found sh s own t key) (Fits (columns_in sh t))
+  key_fits own key = written own.written
+    where
+      at : (p : ℕ) → IfSome (seen_in (slot_at sh s t p) own.snapshot.stamp own.session) (Fits (columns_in sh t))
+      at p = seen_fits (columns_in sh t) (slot_at sh s t p).row (slot_at sh s t p).entries own.snapshot.stamp own.session (versions_fit sh s ok t p)
+
+      or_fits : (o rest : Option Row) → IfSome o (Fits (columns_in sh t)) → IfSome rest (Fits (columns_in sh t)) → IfSome (option_or o rest) (Fits (columns_in sh t))
+      or_fits None rest one more = more
+      or_fits (Some row) rest one more = one
+
+      first : (places : List ℕ) → IfSome (first_at (λ p. seen_in (slot_at sh s t p) own.snapshot.stamp own.session) places) (Fits (columns_in sh t))
+      first [] = tt
+      first (p ∷ ps) = or_fits (seen_in (slot_at sh s t p) own.snapshot.stamp own.session) (first_at (λ p. seen_in (slot_at sh s t p) own.snapshot.stamp own.session) ps) (at p) (first ps)
+
+      written : (o : Option ℕ) → IfSome (found_at (slot_at sh s t) (places_at sh s t key) own o) (Fits (columns_in sh t))
+      written (Some p) = at p
+      written None = first (places_at sh s t key)
+
+  -- So do the rows that a range tells.
+  pub range_fits : (own : OwnTransaction) (low high : ℤ) → All (Fits (columns_in sh t)) (range_found sh s own t low high)
+  range_fits own low high = kept_fit (λ key. found sh s (own_key t key own) t key) (Fits (columns_in sh t)) (range_keys sh s t low high)
+      (all_of (λ key. IfSome (found sh s (own_key t key own) t key) (Fits (columns_in sh t))) (λ key. key_fits (own_key t key own) key) (range_keys sh s t low high))
 
 -- ---- the core that a front of a lawful log leaves
 

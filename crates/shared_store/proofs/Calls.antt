@@ -76,7 +76,7 @@ pub took_none : (shape : Shape) (events : List CoreEvent) (log : List Logged) (t
 took_none shape events log taken = record { parts = []; took = sym (append-nil taken); touched = λ k is. absurd (true≢false (sym is)) }
 
 -- A call of one event: the session behind it, and what it answers.
-pub one_event_at : (store : StoreView) (old new : Session) (command : Command) (e : CoreEvent) (told : CoreReply) (line : Said)
+unfoldable pub one_event_at : (store : StoreView) (old new : Session) (command : Command) (e : CoreEvent) (told : CoreReply) (line : Said)
     → IsSession store old
     → reads_block e ≡ false
     → (m : Makes store old.session old.pass.seat new.pass.seat new.pass.hands (own_of old) e told)
@@ -106,7 +106,7 @@ one_event_at store old new command e told line is other m same own_now keeps fit
     unshared = ap is_shared m.makes.reply ∙ no_image_told (shape_in store) (parts_after (shape_in store) m.makes.before) e (is_memory told) other
 
 -- The same of a command whose events hang on nothing that was made.
-pub one_event : (store : StoreView) (old new : Session) (command : Command) (e : CoreEvent) (told : CoreReply) (line : Said)
+unfoldable pub one_event : (store : StoreView) (old new : Session) (command : Command) (e : CoreEvent) (told : CoreReply) (line : Said)
     → IsSession store old
     → reads_block e ≡ false
     → Makes store old.session old.pass.seat new.pass.seat new.pass.hands (own_of old) e told
@@ -204,7 +204,7 @@ told_or_memory store session old new hands own e told m = go (is_memory told) re
     go false is r = inr r
 
 -- a command that found no memory before its first event leaves the session as it was
-pub unmade : (store : StoreView) (s : Session) (writes : PlaceMap ℕ) (command : Command) → IsSession store s → refusal_of command (own_of s) ≡ None → may_lack_memory command ≡ true
+unfoldable pub unmade : (store : StoreView) (s : Session) (writes : PlaceMap ℕ) (command : Command) → IsSession store s → refusal_of command (own_of s) ≡ None → may_lack_memory command ≡ true
     → Answers store s (record { pass = s.pass; session = s.session; snapshot = s.snapshot; writes = writes; reads = s.reads }) command said.Memory
 unmade store s writes command is granted may = record {
   made = [];

@@ -1,6 +1,6 @@
 -- The parts in a pass's hand are those that its log leaves, and tell what an event touches as all
 -- parts do.
-use Rattle.std.proofs.Common.{◌≡◌, ℕ, ℤ, ◌==◌, true, ◌||◌, cond, List, [], ◌∷◌, ◌++◌, Option, None, Some, length, map, refl, sym, ap, ◌∙◌, arith}
+use Rattle.std.proofs.Common.{◌≡◌, ℕ, ℤ, Bool, ◌==◌, true, ◌||◌, cond, List, [], ◌∷◌, ◌++◌, Option, None, Some, length, map, refl, sym, ap, ◌∙◌, arith}
 use Rattle.std.specs.Prelude.{⊤, option_to_list, slice_get}
 use Rattle.std.specs.List.{flat_map, list_any}
 use Rattle.std.specs.Option.{option_or}
@@ -10,13 +10,13 @@ use Rattle.event_spec.specs.Effects.{CoreEvent}
 use Rattle.event_spec.specs.Judged.{next_place}
 use Rattle.event_spec.specs.Newest.{judged_reads, keys_within}
 use Rattle.event_spec.specs.Parts.{CorePart, HeadOf, Name, Parts, ShardOf, Shape, TheDesk, below, held_named, head_from, names, part_named, same_name, shard_from, shard_of, slots_of}
-use Rattle.event_spec.specs.Touched.{held_keys, held_next, held_places, is_body_of, is_body_written, is_shard_in, passes_test, touched, touched_by_got, touched_by_insert, touched_by_key, touched_by_range, touched_by_reads, touching}
+use Rattle.event_spec.specs.Touched.{held_keys, held_next, held_places, is_body_of, is_body_written, is_shard_in, passes_test, seen_places, touched, touched_by_got, touched_by_insert, touched_by_key, touched_by_range, touched_by_reads, touching}
 use Rattle.core_laws.proofs.Frames.Looks.{look, name_self}
 use Rattle.hall_rule.specs.EventLog.{replay}
 use Rattle.hall_rule.specs.HallInvariant.{hands_of}
 use Rattle.hall_rule.specs.Hands.{Agrees, Covers, all_in}
 use Rattle.hall_steps.specs.Hall.{EachHand, IsPassAt, first_of}
-use Rattle.isolation_spec.specs.Contents.{key_of}
+use Rattle.isolation_spec.specs.Contents.{at_place, key_of, place_at}
 use Rattle.isolation_spec.specs.Reads.{ReadSet}
 use Rattle.isolation_spec.specs.declared.place.Place.{Place}
 use Rattle.isolation_spec.specs.declared.read.KeyRange.{KeyRange}
@@ -44,6 +44,30 @@ whole_held : (ns : List Name) (s : Parts) (w : Name) → held_named ns (map Some
 whole_held [] s w = refl
 whole_held (n ∷ ns) [] w = refl
 whole_held (n ∷ ns) (p ∷ s) w = ap (λ x. cond (same_name n w) (Some p) x) (whole_held ns s w)
+
+-- what a range touches whose rows may be found at these places besides
+abbrev by_range : Shape → (Name → Option CorePart) → (ℤ → List ℕ) → ℕ → ℤ → ℤ → Name → Bool
+by_range sh held front t low high n =
+    is_shard_in t n || list_any (λ key. is_body_of t (front key ++ held_places sh held t key) n) (held_keys sh held t low high)
+
+-- Where the shards of its table are the same it touches the same.
+pub range_alike : (sh : Shape) (one other : Name → Option CorePart) (front : ℤ → List ℕ) (t : ℕ) (low high : ℤ) (n : Name)
+    → ((i : ℕ) → one (ShardOf t i) ≡ other (ShardOf t i)) → by_range sh one front t low high n ≡ by_range sh other front t low high n
+range_alike sh one other front t low high n same =
+    ap (λ b. is_shard_in t n || b)
+    (ap (list_any (λ key. is_body_of t (front key ++ held_places sh one t key) n)) (keys (below 8)) ∙ bodies (held_keys sh other t low high))
+  where
+    keys : (is : List ℕ) → flat_map (λ i. keys_within low high (shard_from (one (ShardOf t i)))) is ≡ flat_map (λ i. keys_within low high (shard_from (other (ShardOf t i)))) is
+    keys [] = refl
+    keys (i ∷ is) =
+        ap (λ x. keys_within low high (shard_from x) ++ flat_map (λ i. keys_within low high (shard_from (one (ShardOf t i)))) is) (same i)
+        ∙ ap (λ xs. keys_within low high (shard_from (other (ShardOf t i))) ++ xs) (keys is)
+
+    bodies : (ks : List ℤ) → list_any (λ key. is_body_of t (front key ++ held_places sh one t key) n) ks ≡ list_any (λ key. is_body_of t (front key ++ held_places sh other t key) n) ks
+    bodies [] = refl
+    bodies (key ∷ ks) =
+        ap (λ x. is_body_of t (front key ++ candidates_of (shard_from x) key) n || list_any (λ key. is_body_of t (front key ++ held_places sh one t key) n) ks) (same (shard_of key))
+        ∙ ap (λ b. is_body_of t (front key ++ held_places sh other t key) n || b) (bodies ks)
 
 module _ (sh : Shape) (hand : List (Option CorePart)) (s : Parts) (agrees : Agrees hand s) where
   -- The part of a name that the hand holds, if it does.
@@ -115,24 +139,7 @@ module _ (sh : Shape) (hand : List (Option CorePart)) (s : Parts) (agrees : Agre
 
   same_range : (e : CoreEvent) (n : Name) (r : KeyRange) → Covers (touching sh e) hand → ((i : ℕ) → touched sh inhand e (ShardOf r.table i) ≡ true)
       → touched_by_range sh inhand r n ≡ touched_by_range sh whole r n
-  same_range e n r covers all =
-      ap (λ b. is_shard_in r.table n || b)
-      (ap (list_any (λ key. is_body_of r.table (held_places sh inhand r.table key) n)) (keys (below 8)) ∙ bodies (held_keys sh whole r.table r.low r.high))
-    where
-      shard : (i : ℕ) → inhand (ShardOf r.table i) ≡ whole (ShardOf r.table i)
-      shard i = same_part e (ShardOf r.table i) covers (all i)
-
-      keys : (is : List ℕ) → flat_map (λ i. keys_within r.low r.high (shard_from (inhand (ShardOf r.table i)))) is ≡ flat_map (λ i. keys_within r.low r.high (shard_from (whole (ShardOf r.table i)))) is
-      keys [] = refl
-      keys (i ∷ is) =
-          ap (λ x. keys_within r.low r.high (shard_from x) ++ flat_map (λ i. keys_within r.low r.high (shard_from (inhand (ShardOf r.table i)))) is) (shard i)
-          ∙ ap (λ xs. keys_within r.low r.high (shard_from (whole (ShardOf r.table i))) ++ xs) (keys is)
-
-      bodies : (ks : List ℤ) → list_any (λ key. is_body_of r.table (held_places sh inhand r.table key) n) ks ≡ list_any (λ key. is_body_of r.table (held_places sh whole r.table key) n) ks
-      bodies [] = refl
-      bodies (key ∷ ks) =
-          ap (λ places. is_body_of r.table places n || list_any (λ key. is_body_of r.table (held_places sh inhand r.table key) n) ks) (same_places r.table key (shard (shard_of key)))
-          ∙ ap (λ b. is_body_of r.table (held_places sh whole r.table key) n || b) (bodies ks)
+  same_range e n r covers all = range_alike sh inhand whole (λ key. []) r.table r.low r.high n (λ i. same_part e (ShardOf r.table i) covers (all i))
 
   same_ranges : (e : CoreEvent) (n : Name) (rs : List KeyRange) → Covers (touching sh e) hand → TablesTouched e rs
       → list_any (λ r. touched_by_range sh inhand r n) rs ≡ list_any (λ r. touched_by_range sh whole r n) rs
@@ -175,6 +182,10 @@ module _ (sh : Shape) (hand : List (Option CorePart)) (s : Parts) (agrees : Agre
   same_touched (event.Delete own table key) n covers = by_key (event.Delete own table key) table key (option_to_list own.written) n covers
       (shard_touched table key (option_to_list own.written ++ held_places sh inhand table key))
   same_touched (event.Read own table block) n covers = refl
+  same_touched (event.Range own table low high) n covers =
+      range_alike sh inhand whole (λ key. option_to_list (at_place own.writes (place_at table key))) table low high n
+      (λ i. same_part (event.Range own table low high) (ShardOf table i) covers
+      (or_left (table == table) (list_any (λ key. is_body_of table (seen_places sh inhand own table key) (ShardOf table i)) (held_keys sh inhand table low high)) (num_refl table)))
   same_touched (event.Commit own reads) n covers =
       let e = event.Commit own reads in
       ap (λ b. (is_body_written own.writes n || b) || same_name TheDesk n) (same_reads e n (judged_reads own.writes reads) covers

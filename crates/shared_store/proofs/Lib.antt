@@ -10,12 +10,12 @@ pub mod Full
 pub mod Hands
 pub mod Imagings
 pub mod Kept
-pub mod Laid
 pub mod Latched
 pub mod Made
 pub mod Maps
 pub mod Observed
 pub mod Pruned
+pub mod Ranged
 pub mod ReadSets
 pub mod Rested
 mod Rows
@@ -36,3 +36,6 @@ pub mod GivenBack
 pub mod Ending
 pub mod Marking
 pub mod Taken
+pub mod Sums
+pub mod Totals
+pub mod Totalled

@@ -1,9 +1,10 @@
 -- An event made by a session's pass: its parts are taken, it is made on them, they are given back.
-use Rattle.std.proofs.Common.{◌≡◌, ℕ, suc, ◌+◌, ◌<◌, ◌^◌, Bool, true, false, List, [], ◌∷◌, ◌++◌, Option, None, Some, length, refl, sym, ap, subst, ◌∙◌, append-nil, length-append, true≢false, arith}
+use Rattle.std.proofs.Common.{◌≡◌, ℕ, suc, ◌+◌, ◌<◌, ◌≤◌, ◌^◌, Bool, true, false, List, [], ◌∷◌, ◌++◌, Option, None, Some, length, refl, sym, ap, subst, ◌∙◌, append-nil, length-append, true≢false, arith}
 use mathlib.Core.Logic.{inl, inr}
-use Rattle.std.specs.Prelude.{MatchBool}
+use Rattle.std.specs.Prelude.{⊤, MatchBool}
 use Rattle.std.proofs.lemmas.List.{length-map}
 use Rattle.engine_core.specs.Core.{is_memory}
+use Rattle.engine_core.specs.Costs.{cost_of}
 use Rattle.core_laws.specs.Words.Words.{thawed_part}
 use Rattle.event_spec.specs.declared.own.OwnTransaction.{OwnTransaction}
 use Rattle.event_spec.specs.declared.reply.Reply.TheVariants as reply
@@ -39,7 +40,7 @@ use Rattle.run_spec.specs.Occurrences.{Logged}
 use Rattle.run_spec.specs.Opened.{own_after}
 use Rattle.store_laws.specs.OwnLaws.{HasOpened}
 use Rattle.hall_rule.specs.Hands.{Agrees, Covers, SameRoom, all_in}
-use Rattle.shared_store.specs.Making.{FitsEach, Gives, IsFew, Makes, MakesHeld, MayMake, MayMakeHeld, OldestLasts, Takes, parts_seen}
+use Rattle.shared_store.specs.Making.{FitsEach, Gives, IsFew, Makes, MakesHeld, MayMake, MayMakeHeld, OldestLasts, ReadsFew, Takes, parts_seen}
 use Rattle.shared_store.specs.Store.{HandsView, IsStore, IsWithin, IsWithinAt, SeatView, StoreView, TookPartsOf, shape_in}
 use Rattle.shared_store.proofs.Hands.{agrees_with, touching_whole}
 use Rattle.shared_store.proofs.Claims.{same_on}
@@ -293,7 +294,25 @@ module _ (store : StoreView) (is_store : IsStore store) (t u : SeatView) (hands 
       lasting = lasts;
     }
 
+    -- and looked at no more rows than it may
+    pub reads_few : (spent steps : ℕ) → steps ≤ spent + cost_of shape e (replay (store_meaning shape) before) → ReadsFew shape u.me.0 e told spent steps
+    reads_few spent steps few = record {
+      before = log_of before;
+      last = logged_of entry;
+      log = ap log_of ends.log ∙ log_append shape before (entry ∷ []);
+      tells = tells (lacks_memory told) (subst (λ b. MatchBool b Q (told ≡ reply_to shape (replay (store_meaning shape) before) e)) (memory_same told) said);
+      few = subst (λ (parts : Parts). steps ≤ spent + cost_of shape e parts) (replay_same shape before) few;
+    }
+      where
+        tells : (b : Bool) → MatchBool b Q (told ≡ reply_to shape (replay (store_meaning shape) before) e) → MatchBool b ⊤ (told ≡ reply_to shape (parts_after shape (log_of before)) e)
+        tells true is = tt
+        tells false is = is ∙ ap (λ (parts : Parts). reply_to shape parts e) (replay_same shape before)
+
 -- ---- giving back
+
+-- as it is told where the log is the same
+pub few_still : (shape : Shape) (v w : View CoreEvent) (e : CoreEvent) (told : CoreReply) (spent steps : ℕ) → w.log ≡ v.log → ReadsFew shape v e told spent steps → ReadsFew shape w e told spent steps
+few_still _ v w e told spent steps same few = record { before = few.before; last = few.last; log = ap log_of same ∙ few.log; tells = few.tells; few = few.few }
 
 -- a view with the log and the sessions of another knows what that knows
 pub knows_same : (sh : Shape) (session : ℕ) (v w : View CoreEvent) (own : Option OwnTransaction)

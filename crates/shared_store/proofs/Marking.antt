@@ -117,18 +117,45 @@ pub marked_flat : {X : Type 0} (sh : Shape) (f : X → List Name) (xs : List X) 
 marked_flat sh f xs x one two three a b =
     subst (λ ws. Marked sh ws one three) (sym (flat-join f xs x)) (marked_on sh (flat_map f xs) (f x) one two three a b)
 
+-- and behind others each with several things, each of which has several parts
+pub marked_within : {X Y : Type 0} (sh : Shape) (front : List Name) (f : Y → List Name) (g : X → List Y) (xs : List X) (x : X) (one two three : List Bool)
+    → Marked sh (front ++ flat_map f (flat_map g xs)) one two → Marked sh (flat_map f (g x)) two three → Marked sh (front ++ flat_map f (flat_map g (xs ++ x ∷ []))) one three
+marked_within {X} {Y} sh front f g xs x one two three a b = subst (λ ws. Marked sh ws one three)
+    (join front (flat_map f (flat_map g xs)) (flat_map f (g x)) ∙ ap (λ ws. front ++ ws) (sym (both (flat_map g xs) (g x)) ∙ ap (flat_map f) (sym (flat-join g xs x))))
+    (marked_on sh (front ++ flat_map f (flat_map g xs)) (flat_map f (g x)) one two three a b)
+  where
+    join : (us vs ws : List Name) → (us ++ vs) ++ ws ≡ us ++ (vs ++ ws)
+    join [] vs ws = refl
+    join (u ∷ us) vs ws = ap (λ zs. u ∷ zs) (join us vs ws)
+
+    both : (ys zs : List Y) → flat_map f (ys ++ zs) ≡ flat_map f ys ++ flat_map f zs
+    both [] zs = refl
+    both (y ∷ ys) zs = ap (λ ws. f y ++ ws) (both ys zs) ∙ sym (join (f y) (flat_map f ys) (flat_map f zs))
+
 -- the first so many and the next
-pub take_next : (xs : List ℕ) (i x : ℕ) → i < length xs → x ≡ get_or xs i x → take (i + 1) xs ≡ take i xs ++ x ∷ []
+pub take_next : {X : Type 0} (xs : List X) (i : ℕ) (x : X) → i < length xs → x ≡ get_or xs i x → take (i + 1) xs ≡ take i xs ++ x ∷ []
 take_next [] i x less is = absurd (omega (arith, less))
 take_next (y ∷ xs) zero x less is = ap (λ z. z ∷ []) (sym is)
 take_next (y ∷ xs) (suc i) x less is =
     ap (λ k. take k (y ∷ xs)) (let e : suc i + 1 ≡ suc (i + 1) = omega arith in e) ∙ ap (λ zs. y ∷ zs) (take_next xs i x (omega (arith, less)) is)
 
-pub take_whole : (xs : List ℕ) (i : ℕ) → length xs ≤ i → take i xs ≡ xs
+pub take_whole : {X : Type 0} (xs : List X) (i : ℕ) → length xs ≤ i → take i xs ≡ xs
 take_whole [] zero low = refl
 take_whole [] (suc i) low = refl
 take_whole (x ∷ xs) zero low = absurd (omega (arith, low))
 take_whole (x ∷ xs) (suc i) low = ap (λ zs. x ∷ zs) (take_whole xs i (omega (arith, low)))
+
+-- what stands at a number, whatever stands for it beyond the list
+default : {X : Type 0} (xs : List X) (i : ℕ) (d e : X) → i < length xs → get_or xs i d ≡ get_or xs i e
+default [] i d e less = absurd (omega (arith, less))
+default (x ∷ xs) zero d e less = refl
+default (x ∷ xs) (suc i) d e less = default xs i d e (omega (arith, less))
+
+-- the next of a list, each with several parts
+pub marked_next : {X : Type 0} (sh : Shape) (f : X → List Name) (xs : List X) (i : ℕ) (d : X) (one two three : List Bool) → i < length xs
+    → Marked sh (flat_map f (take i xs)) one two → Marked sh (f (get_or xs i d)) two three → Marked sh (flat_map f (take (i + 1) xs)) one three
+marked_next {X} sh f xs i d one two three less a b = subst (λ (ys : List X). Marked sh (flat_map f ys) one three)
+    (sym (take_next xs i (get_or xs i d) less (default xs i d (get_or xs i d) less))) (marked_flat sh f (take i xs) (get_or xs i d) one two three a b)
 
 -- ---- places in order
 

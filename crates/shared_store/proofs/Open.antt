@@ -1,5 +1,5 @@
 -- What a session has open by the machine, from call to call.
-use Rattle.std.proofs.Common.{◌≡◌, ℕ, ℤ, Bool, true, false, List, [], ◌∷◌, ◌++◌, Option, None, Some, Result, Ok, Err, is_some, option_map, refl, sym, ap, subst, ◌∙◌, append-nil, true≢false}
+use Rattle.std.proofs.Common.{◌≡◌, ℕ, ℤ, true, false, List, [], ◌∷◌, ◌++◌, Option, None, Some, Result, Ok, Err, is_some, option_map, refl, sym, ap, subst, ◌∙◌, append-nil, true≢false}
 use Rattle.std.specs.BTreeMap.{insert_entry}
 use Rattle.std.proofs.lemmas.List.{append_cancel_right}
 use Rattle.block_spec.specs.Slots.{Row}
@@ -26,9 +26,10 @@ use Rattle.store_laws.specs.Machines.{HasOpenIn, machine_after, stale_since}
 use Rattle.store_laws.specs.Own.{MakesOne, StandsUnder, entry_of, occurrence_at, parts_after}
 use Rattle.store_laws.proofs.Entries.{own_grows}
 use Rattle.store_laws.proofs.Machines.{last_step, more_commits, quiet_on}
-use Rattle.store_laws.proofs.Stepping.{Leaves, begun, committed, found, insert_left, inserted, open_on, stands, stays_stale}
+use Rattle.store_laws.proofs.Stepping.{Leaves, begun, committed, found, insert_left, inserted, open_on, ranged, stands, stays_stale}
 use Rattle.txn_desk.specs.declared.Snapshot.{Snapshot}
-use Rattle.shared_store.specs.Open.{Commits, FindsRow, IsOpen, Opens, StaysOpen, WritesRow, commits_seen, machine_of}
+use Rattle.run_spec.specs.Told.{in_key_order}
+use Rattle.shared_store.specs.Open.{Commits, FindsBetween, FindsRow, IsOpen, Opens, StaysOpen, WritesRow, commits_seen, machine_of}
 use Rattle.shared_store.specs.Store.{IsSession, StoreView, opened_at, own_of, reads_of, seen, shape_in}
 use Rattle.shared_store.specs.declared.faults.Stale.{Stale}
 use Rattle.shared_store.specs.Writing.{IsWriteReply, is_written}
@@ -164,6 +165,37 @@ pub finds_nothing : {E : Type 0} (store : StoreView) (old new : Session) (k : Ow
 finds_nothing store old new k table key memory is later same m busy commits own o =
     let s = step_is store old new (event.Get k table key) reply.Memory is later same m in
     record { is_open = unmoved store old new (event.Get k table key) reply.Memory is later same m commits own busy o (sym s.2); row = tt }
+
+-- a range that found rows
+pub finds_range : {E : Type 0} (store : StoreView) (old new : Session) (t : OwnTransaction) (table : ℕ) (low high : ℤ) (listed rows : List Row) → IsSession store old → IsSession store new → new.session ≡ old.session
+    → t.session ≡ old.session
+    → MakesOne (shape_in store) old.session (seen old) (seen new) (event.Range t table low high) (reply.Rows listed)
+    → is_some (own_of new) ≡ true → rows ≡ in_key_order table listed → FindsBetween {E = E} store old new table low high (Ok rows)
+finds_range store old new t table low high listed rows is later same mine m busy ordered commits own o =
+    let e = event.Range t table low high in
+    let told : CoreReply = reply.Rows listed in
+    let mid = middle store old new e told is later same m in
+    let f = ranged old.session mid (machine_of store new) commits own (still store old new e told is later same m commits own o) table low high (in_key_order table listed)
+    (subst (λ q. Rattle.isolation_spec.specs.Machine.step mid (record { session = q; act = act.Range table low high }) ≡ (answer.Rows (in_key_order table listed), machine_of store new)) mine (step_is store old new e told is later same m)) in
+    record { is_open = unmoved store old new e told is later same m commits own busy o f.1; rows = ordered ∙ f.0 }
+
+-- a range whose rows were found, with no memory for them
+pub finds_unranged : {E : Type 0} (store : StoreView) (old new : Session) (t : OwnTransaction) (table : ℕ) (low high : ℤ) (listed : List Row) (memory : E) → IsSession store old → IsSession store new → new.session ≡ old.session
+    → t.session ≡ old.session
+    → MakesOne (shape_in store) old.session (seen old) (seen new) (event.Range t table low high) (reply.Rows listed)
+    → is_some (own_of new) ≡ true → FindsBetween {E = E} store old new table low high (Err memory)
+finds_unranged {E} store old new t table low high listed memory is later same mine m busy commits own o = record {
+  is_open = (finds_range {E = E} store old new t table low high listed (in_key_order table listed) is later same mine m busy refl commits own o).is_open;
+  rows = tt;
+}
+
+-- a range that found no memory
+pub finds_no_range : {E : Type 0} (store : StoreView) (old new : Session) (t : OwnTransaction) (table : ℕ) (low high : ℤ) (memory : E) → IsSession store old → IsSession store new → new.session ≡ old.session
+    → MakesOne (shape_in store) old.session (seen old) (seen new) (event.Range t table low high) reply.Memory
+    → is_some (own_of new) ≡ true → FindsBetween {E = E} store old new table low high (Err memory)
+finds_no_range store old new t table low high memory is later same m busy commits own o =
+    let s = step_is store old new (event.Range t table low high) reply.Memory is later same m in
+    record { is_open = unmoved store old new (event.Range t table low high) reply.Memory is later same m commits own busy o (sym s.2); rows = tt }
 
 -- an insert, by its reply
 pub inserts_row : {X E : Type 0} (store : StoreView) (old new : Session) (k : OwnKey) (table : ℕ) (row : Row) (told : CoreReply) (answer : Result X E)

@@ -2,19 +2,21 @@
 use Rattle.std.proofs.Common.{◌≡◌, ℕ, Bool, true, false, cond, List, Option, None, Some, refl, sym, ap, subst, ◌∙◌, [], ◌∷◌}
 use Rattle.std.specs.Prelude.{Result, Ok, Err, option_and_then}
 use Rattle.std.specs.Ordering.{nat_cmp}
-use Rattle.std.proofs.lemmas.List.Elements.{All-nil}
+use Rattle.std.proofs.lemmas.List.Elements.{All-append, All-cons, All-nil}
 use Rattle.std.proofs.lemmas.Map.Views.{All-insert_key}
 use Rattle.event_spec.specs.Lawful.{HasTable}
 use Rattle.event_spec.specs.Parts.{Shape, Parts, desk_at, places_at, slot_at}
 use Rattle.isolation_spec.specs.Contents.{place_cmp, PlaceMap}
 use Rattle.isolation_spec.specs.Reads.{ReadSet, first_stale, reads_in}
 use Rattle.isolation_spec.specs.declared.place.Place.{Place}
+use Rattle.isolation_spec.specs.declared.read.KeyRange.{KeyRange}
 use Rattle.isolation_spec.specs.declared.read.Read.TheVariants as read
 use Rattle.run_spec.specs.Calls.{is_memory, reads_behind}
 use Rattle.workload_spec.specs.declared.command.Command.{Command}
 use Rattle.workload_spec.specs.declared.command.Command.TheVariants as command
 use Rattle.workload_spec.specs.declared.reply.Said.TheVariants as said
 use Rattle.shared_store.specs.Open.{FindsRows}
+use Rattle.shared_store.specs.Ranging.{range_read}
 use Rattle.shared_store.specs.Reads.{ReadsFit, read_by, reads_begun, with_one}
 use Rattle.shared_store.specs.Store.{IsSession, KeepsReads, StoreView, reads_of, shape_in, swept}
 use Rattle.shared_store.specs.Told.{written_told}
@@ -38,7 +40,7 @@ pub begun_fit : (shape : Shape) (checked : Bool) → ReadsFit shape (reads_begun
 begun_fit shape true = record {
   places = All-nil (λ (place : Place). HasTable shape place.table);
   tables = All-nil (HasTable shape);
-  ranges = refl;
+  ranges = All-nil (λ (range : KeyRange). HasTable shape range.table);
 }
 begun_fit shape false = tt
 
@@ -57,6 +59,19 @@ key_fits shape place (Some set) has fits = record {
   tables = fits.tables;
   ranges = fits.ranges;
 }
+
+pub range_fits : (shape : Shape) (range : KeyRange) (reads : Option ReadSet) → HasTable shape range.table → ReadsFit shape reads → ReadsFit shape (with_one (read.Range range.table range.low range.high) reads)
+range_fits shape range None has fits = tt
+range_fits shape range (Some set) has fits = record {
+  places = fits.places;
+  tables = fits.tables;
+  ranges = All-append (λ (r : KeyRange). HasTable shape r.table) set.ranges (range ∷ []) fits.ranges
+      (All-cons (λ (r : KeyRange). HasTable shape r.table) range [] has (All-nil (λ (r : KeyRange). HasTable shape r.table)));
+}
+
+pub ranged_fits : {E : Type 0} (shape : Shape) (range : KeyRange) (found : Result (List Row) E) (reads : Option ReadSet) → HasTable shape range.table → ReadsFit shape reads → ReadsFit shape (range_read range found reads)
+ranged_fits shape range (Ok rows) reads has fits = range_fits shape range reads has fits
+ranged_fits shape range (Err memory) reads has fits = fits
 
 pub got_fits : (shape : Shape) (place : Place) (told : CoreReply) (reads : Option ReadSet) → HasTable shape place.table → ReadsFit shape reads → ReadsFit shape (read_by place told reads)
 got_fits shape place told reads has fits = go (is_memory told)

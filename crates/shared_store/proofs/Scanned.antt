@@ -1,7 +1,7 @@
 -- Reads of a table's blocks one after another, and the scan that they make.
 use Rattle.std.proofs.Common.{◌≡◌, ◌⊎◌, ℕ, zero, suc, ◌+◌, ◌-◌, ◌<◌, ◌≤◌, Bool, true, false, cond, not, ◌&&◌, ◌||◌, List, [], ◌∷◌, ◌++◌, Option, None, Some, Result, Ok, Err, length, map, refl, sym, ap, subst, ◌∙◌, append-nil, arith}
 use mathlib.Core.Logic.{inl, inr}
-use Rattle.std.specs.Prelude.{IfOk, IfSome, IsErr, OnOk, count_by, flat_map}
+use Rattle.std.specs.Prelude.{All, IfSome, IsErr, OnOk, count_by, flat_map}
 use Rattle.std.specs.List.{last_or, list_any, range_with_len}
 use Rattle.std.proofs.lemmas.List.FromFn.{length-range_with_len}
 use Rattle.std.proofs.lemmas.List.Sums.{count_by-le-length, sum_by-append}
@@ -14,12 +14,11 @@ use Rattle.event_spec.specs.Lawful.{Among}
 use Rattle.event_spec.specs.Parts.{Parts, Shape, below, blocks_of}
 use Rattle.event_spec.specs.Replies.{CoreReply}
 use Rattle.hall_rule.specs.EventLog.{has}
-use Rattle.isolation_spec.specs.Contents.{State, contents_of}
 use Rattle.run_spec.specs.Asked.{at_blocks, events_of}
-use Rattle.run_spec.specs.Calls.{Call, IsCallBy, IsPart, IsWhole, is_cut_short, is_final, is_memory, is_refused, reads_behind}
+use Rattle.run_spec.specs.Calls.{Call, IsCallBy, IsPart, IsWhole, is_cut_short, is_final, is_memory, is_refused, may_lack_memory, reads_behind}
 use Rattle.run_spec.specs.Handed.{GoesOn, Stretch}
 use Rattle.run_spec.specs.Occurrences.{Logged, Occurrence, events_in, replies_in}
-use Rattle.run_spec.specs.Told.{is_shared, refusal_of, rows_told}
+use Rattle.run_spec.specs.Told.{in_key_order, is_shared, line_of, refusal_of, rows_told}
 use Rattle.store_laws.proofs.Calling.{event_stretch, goes_far, made_on}
 use Rattle.store_laws.proofs.Lends.{no_image_told}
 use Rattle.store_laws.proofs.Lent.{stretch_goes}
@@ -34,16 +33,18 @@ use Rattle.shared_store.specs.Reading.{IsReadOf, ReadsBlock, Went, reply_of, row
 use Rattle.shared_store.specs.declared.reading.SeenBlock.{SeenBlock}
 use Rattle.shared_store.specs.declared.reading.SeenBlock.TheVariants as block
 use Rattle.shared_store.specs.Told.{scanned_told}
-use Rattle.shared_store.specs.Scanning.{ArePlain, ReadsOnce, Scans, laid, scan_cost}
+use Rattle.shared_store.specs.Scanning.{ArePlain, ReadsOnce, Scans, scan_cost}
+use Rattle.std.proofs.lemmas.List.Elements.{All-append, All-nil}
+use Rattle.cell_model.specs.Rows.{Fits}
+use Rattle.event_spec.specs.Replay.{columns_in}
 use Rattle.shared_store.specs.Store.{Answers, EndsWithLast, IsSession, IsTouched, KeepsLend, StoreView, TookPartsOf, own_of, seen, shape_in, taken_by, events_made, view_of, reads_of, swept}
 use Rattle.shared_store.specs.declared.session.Session.{Session}
 use Rattle.shared_store.proofs.Calls.{ends_call, took_none}
 use Rattle.shared_store.proofs.Claims.{keeps_on, keeps_stays}
 use Rattle.shared_store.proofs.Counted.{le_more, scanned_more}
-use Rattle.shared_store.proofs.Laid.{laid_all}
 use Rattle.shared_store.specs.Reads.{with_one}
 use Rattle.isolation_spec.specs.Reads.{ReadSet}
-use Rattle.isolation_spec.specs.declared.read.Read.TheVariants as read
+use Rattle.isolation_spec.specs.declared.read.Read.TheVariants as what
 
 -- ---- parts that were taken
 
@@ -204,7 +205,7 @@ went_on store old mid new own t b told events made w r one keeps parts is = reco
 
 -- Events made one after another are a command's call where they are whole or cut short. Its session
 -- has read what the line tells.
-pub went_swept : (store : StoreView) (old new : Session) (read : Option ReadSet) (c : Command) (events : List CoreEvent) (made : List Occurrence) (line : Said)
+unfoldable pub went_swept : (store : StoreView) (old new : Session) (read : Option ReadSet) (c : Command) (events : List CoreEvent) (made : List Occurrence) (line : Said)
     → IsSession store old → Went store old new events made → events_of (shape_in store) (own_of old) (reads_of old) old.session c made ≡ events
     → refusal_of c (own_of old) ≡ None → read ≡ reads_behind (reads_of old) c line
     → IsWhole (shape_in store) false old.session (own_of old) (record { command = c; made = made; told = Some line; reads = reads_of old })
@@ -225,7 +226,7 @@ went_swept store old new read c events made line is w same granted keeps either 
 }
 
 -- where the line tells none, it has read what it had
-pub went_call : (store : StoreView) (old new : Session) (c : Command) (events : List CoreEvent) (made : List Occurrence) (line : Said)
+unfoldable pub went_call : (store : StoreView) (old new : Session) (c : Command) (events : List CoreEvent) (made : List Occurrence) (line : Said)
     → IsSession store old → Went store old new events made → events_of (shape_in store) (own_of old) (reads_of old) old.session c made ≡ events
     → refusal_of c (own_of old) ≡ None → reads_behind (reads_of old) c line ≡ reads_of old
     → IsWhole (shape_in store) false old.session (own_of old) (record { command = c; made = made; told = Some line; reads = reads_of old })
@@ -371,6 +372,16 @@ member_map : {X Y : Type 0} (f : X → Y) (xs ys : List X) (x : X) → Among (f 
 member_map f [] ys x = inl refl
 member_map f (z ∷ zs) ys x = inr (member_map f zs ys x)
 
+-- A command that asks for the reads of all blocks of a table, and may find no memory for them.
+pub record Sweeps (store : StoreView) (own : OwnTransaction) (t : ℕ) (c : Command) : Type 0 where
+  pub asks : (reads : Option ReadSet) (q : ℕ) (made : List Occurrence) → events_of (shape_in store) (Some own) reads q c made ≡ at_blocks (shape_in store) t (event.Read own t)
+  pub granted : refusal_of c (Some own) ≡ None
+  pub unread : (reads : Option ReadSet) → reads_behind reads c said.Memory ≡ reads
+  pub may : may_lack_memory c ≡ true
+
+pub scan_sweeps : (store : StoreView) (own : OwnTransaction) (t : ℕ) → Sweeps store own t (Scan t)
+scan_sweeps store own t = record { asks = λ reads q made. refl; granted = refl; unread = λ reads. refl; may = refl }
+
 module _ (store : StoreView) (own : OwnTransaction) (t : ℕ) where
   -- the shape of the store
   abbrev pub sh : Shape
@@ -381,13 +392,14 @@ module _ (store : StoreView) (own : OwnTransaction) (t : ℕ) where
   asked = at_blocks sh t (event.Read own t)
 
   -- before the first block a scan has read nothing
-  pub scan_begins : (s : Session) → IsSession store s → Scans store s s own t 0 []
+  unfoldable pub scan_begins : (s : Session) → IsSession store s → Scans store s s own t 0 []
   scan_begins s is = record {
     made = [];
     went = went_nowhere store s asked is;
     events = refl;
     plain = tt;
     rows = refl;
+    fits = All-nil (Fits (columns_in sh t));
   }
 
   -- each of the table's blocks is read by the scan
@@ -398,101 +410,130 @@ module _ (store : StoreView) (own : OwnTransaction) (t : ℕ) where
       (member_map (event.Read own t) (below k) r.0 k)
 
   -- the next block was read
-  next_made : (old mid : Session) (k : ℕ) (state : State) (parts : Parts) (told : CoreReply) → (s : Scans store old mid own t k state)
+  pub next_made : (old mid : Session) (k : ℕ) (read : List Row) (parts : Parts) (told : CoreReply) → (s : Scans store old mid own t k read)
       → events_in (s.made ++ read_at old own t k parts told ∷ []) ≡ map (event.Read own t) (below (k + 1))
-  next_made old mid k state parts told s =
+  next_made old mid k read parts told s =
       map-append (λ (o : Occurrence). o.event) s.made (read_at old own t k parts told ∷ [])
       ∙ ap (λ es. es ++ event.Read own t k ∷ []) s.events
       ∙ sym (ap (map (event.Read own t)) (below_more k) ∙ map-append (event.Read own t) (below k) (k ∷ []))
 
   -- The rows told by replies with one more are theirs and that one's.
-  flat_more : (replies : List CoreReply) (told : CoreReply) → flat_map rows_told (replies ++ told ∷ []) ≡ flat_map rows_told replies ++ rows_told told
+  pub flat_more : (replies : List CoreReply) (told : CoreReply) → flat_map rows_told (replies ++ told ∷ []) ≡ flat_map rows_told replies ++ rows_told told
   flat_more [] told = append-nil (rows_told told)
   flat_more (x ∷ xs) told = ap (λ rs. rows_told x ++ rs) (flat_more xs told) ∙ sym (append_assoc (rows_told x) (flat_map rows_told xs) (rows_told told))
 
-  -- one block more was read, and its rows were laid
-  pub scan_goes_on : (old mid new : Session) (k : ℕ) (state now : State) (told : CoreReply) → Scans store old mid own t k state → (r : ReadsBlock store mid new own t k told)
-      → KeepsLend (view_of mid) (view_of new) → k < blocks_of sh t → (granted : is_memory told ≡ false) → now ≡ laid t state (rows_told told) → Scans store old new own t (k + 1) now
-  scan_goes_on old mid new k state now told s r keeps lt granted rows =
+  -- one block more was read
+  unfoldable pub scan_goes_on : (old mid new : Session) (k : ℕ) (read now : List Row) (told : CoreReply) → Scans store old mid own t k read → (r : ReadsBlock store mid new own t k told)
+      → KeepsLend (view_of mid) (view_of new) → k < blocks_of sh t → (granted : is_memory told ≡ false) → now ≡ read ++ rows_told told → Scans store old new own t (k + 1) now
+  scan_goes_on old mid new k read now told s r keeps lt granted rows =
       let one = one_read mid.session own t k told r.made r.is_read granted in
       let last : Occurrence = read_at old own t k one.0 told in
       record {
         made = s.made ++ last ∷ [];
         went = went_on store old mid new own t k told asked s.made s.went r (is_asked k lt) keeps one.0 one.1;
-        events = next_made old mid k state one.0 told s;
+        events = next_made old mid k read one.0 told s;
         plain = plain_added s.made last s.plain granted refl;
-        rows = rows ∙ ap (λ st. laid t st (rows_told told)) s.rows
-            ∙ sym (laid_all t [] (flat_map rows_told (replies_in s.made)) (rows_told told))
-            ∙ ap (laid t []) (sym (flat_more (replies_in s.made) told)
-            ∙ ap (flat_map rows_told) (sym (map-append (λ (o : Occurrence). o.reply) s.made (last ∷ []))));
+        rows = rows ∙ ap (λ rs. rs ++ rows_told told) s.rows ∙ sym (flat_more (replies_in s.made) told)
+            ∙ ap (flat_map rows_told) (sym (map-append (λ (o : Occurrence). o.reply) s.made (last ∷ [])));
+        fits = subst (All (Fits (columns_in sh t))) (sym rows) (All-append (Fits (columns_in sh t)) read (rows_told told) s.fits r.fits);
       }
 
-  module _ (old : Session) (is : IsSession store old) (open' : own_of old ≡ Some own) where
-    asks : (made : List Occurrence) → events_of sh (own_of old) (reads_of old) old.session (Scan t) made ≡ asked
-    asks made = ap (λ o. events_of sh o (reads_of old) old.session (Scan t) made) open'
+  module _ (old : Session) (is : IsSession store old) (open' : own_of old ≡ Some own) (c : Command) (sweeps : Sweeps store own t c) where
+    asks : (made : List Occurrence) → events_of sh (own_of old) (reads_of old) old.session c made ≡ asked
+    asks made = ap (λ o. events_of sh o (reads_of old) old.session c made) open' ∙ sweeps.asks (reads_of old) old.session made
 
-    granted_here : refusal_of (Scan t) (own_of old) ≡ None
-    granted_here = ap (refusal_of (Scan t)) open'
+    granted_here : refusal_of c (own_of old) ≡ None
+    granted_here = ap (refusal_of c) open' ∙ sweeps.granted
 
-    -- a scan that read all blocks answers with the table's rows, and has read the table
-    pub scan_whole : (new : Session) (state : State) → Scans store old new own t (blocks_of sh t) state → Answers store old (swept t new) (Scan t) (said.Scanned (contents_of t state))
-    scan_whole new state s = went_swept store old new (with_one (read.Table t) (reads_of new)) (Scan t) asked s.made (said.Scanned (contents_of t state)) is s.went (asks s.made) granted_here
-        (ap (with_one (read.Table t)) s.went.kept) (inl (record {
-          events = s.events ∙ sym (asks s.made);
-          granted = plain_granted s.made s.plain;
-          line = ap (λ st. Some (said.Scanned (contents_of t st))) s.rows;
-        }))
+    -- a sweep that read all blocks answers with the line that they make, and has read the table
+    pub sweep_whole : (new : Session) (rows : List Row) (s : Scans store old new own t (blocks_of sh t) rows) (line : Said)
+        → with_one (what.Table t) (reads_of old) ≡ reads_behind (reads_of old) c line → Some line ≡ line_of (own_of old) c (replies_in s.made)
+        → (answers : Answers store old (swept t new) c line) × (answers.made ≡ s.made)
+    unfolding went_swept
+    sweep_whole new rows s line behind tells = (
+      went_swept store old new (with_one (what.Table t) (reads_of new)) c asked s.made line is s.went (asks s.made) granted_here
+          (ap (with_one (what.Table t)) s.went.kept ∙ behind) (inl (record {
+            events = s.events ∙ sym (asks s.made);
+            granted = plain_granted s.made s.plain;
+            line = tells;
+          })),
+      refl,
+    )
 
     -- no memory for what was read
-    pub scan_unlaid : (new : Session) (k : ℕ) (state : State) → k ≤ blocks_of sh t → Scans store old new own t k state → Answers store old new (Scan t) said.Memory
-    scan_unlaid new k state le s = went_call store old new (Scan t) asked s.made said.Memory is s.went (asks s.made) granted_here refl (inr (record {
-      may = refl;
-      missed = map (event.Read own t) (rest_of (blocks_of sh t) k le).0;
-      events = asks s.made ∙ ap (map (event.Read own t)) (rest_of (blocks_of sh t) k le).1 ∙ map-append (event.Read own t) (below k) (rest_of (blocks_of sh t) k le).0
-          ∙ ap (λ es. es ++ map (event.Read own t) (rest_of (blocks_of sh t) k le).0) (sym s.events);
-      cut = plain_cut s.made s.plain;
-      line = refl;
-    }))
+    pub sweep_unlaid : (new : Session) (k : ℕ) (read : List Row) → k ≤ blocks_of sh t → (s : Scans store old new own t k read)
+        → (answers : Answers store old new c said.Memory) × (answers.made ≡ s.made)
+    unfolding went_call went_swept
+    sweep_unlaid new k read le s = (
+      went_call store old new c asked s.made said.Memory is s.went (asks s.made) granted_here (sweeps.unread (reads_of old)) (inr (record {
+        may = sweeps.may;
+        missed = map (event.Read own t) (rest_of (blocks_of sh t) k le).0;
+        events = asks s.made ∙ ap (map (event.Read own t)) (rest_of (blocks_of sh t) k le).1 ∙ map-append (event.Read own t) (below k) (rest_of (blocks_of sh t) k le).0
+            ∙ ap (λ es. es ++ map (event.Read own t) (rest_of (blocks_of sh t) k le).0) (sym s.events);
+        cut = plain_cut s.made s.plain;
+        line = refl;
+      })),
+      refl,
+    )
 
     -- a read was refused memory, or there was none for its rows
-    scan_unread_one : (mid new : Session) (k : ℕ) (state : State) (told : CoreReply) → k < blocks_of sh t → Scans store old mid own t k state → (r : ReadsBlock store mid new own t k told)
+    pub sweep_unread_one : (mid new : Session) (k : ℕ) (read : List Row) (told : CoreReply) → k < blocks_of sh t → (s : Scans store old mid own t k read) → (r : ReadsBlock store mid new own t k told)
         → KeepsLend (view_of mid) (view_of new) → (parts : Parts) → r.made ≡ occurrence_at mid.session parts (event.Read own t k) told ∷ []
-        → Answers store old new (Scan t) said.Memory
-    scan_unread_one mid new k state told lt s r keeps parts one =
+        → (answers : Answers store old new c said.Memory) × (answers.made ≡ s.made ++ read_at old own t k parts told ∷ [])
+    unfolding went_call went_swept
+    sweep_unread_one mid new k read told lt s r keeps parts one =
         let le : k + 1 ≤ blocks_of sh t = omega (arith, lt) in
         let last : Occurrence = read_at old own t k parts told in
-        let made = s.made ++ last ∷ [] in
-        went_call store old new (Scan t) asked made said.Memory is (went_on store old mid new own t k told asked s.made s.went r (is_asked k lt) keeps parts one) (asks made) granted_here refl (inr (record {
-          may = refl;
-          missed = map (event.Read own t) (rest_of (blocks_of sh t) (k + 1) le).0;
-          events = asks made ∙ ap (map (event.Read own t)) (rest_of (blocks_of sh t) (k + 1) le).1 ∙ map-append (event.Read own t) (below (k + 1)) (rest_of (blocks_of sh t) (k + 1) le).0
-              ∙ ap (λ es. es ++ map (event.Read own t) (rest_of (blocks_of sh t) (k + 1) le).0) (sym (next_made old mid k state parts told s));
-          cut = plain_cut_behind s.made last s.plain refl;
-          line = refl;
-        }))
+        let made = s.made ++ last ∷ [] in (
+          went_call store old new c asked made said.Memory is (went_on store old mid new own t k told asked s.made s.went r (is_asked k lt) keeps parts one) (asks made) granted_here (sweeps.unread (reads_of old)) (inr (record {
+            may = sweeps.may;
+            missed = map (event.Read own t) (rest_of (blocks_of sh t) (k + 1) le).0;
+            events = asks made ∙ ap (map (event.Read own t)) (rest_of (blocks_of sh t) (k + 1) le).1 ∙ map-append (event.Read own t) (below (k + 1)) (rest_of (blocks_of sh t) (k + 1) le).0
+                ∙ ap (λ es. es ++ map (event.Read own t) (rest_of (blocks_of sh t) (k + 1) le).0) (sym (next_made old mid k read parts told s));
+            cut = plain_cut_behind s.made last s.plain refl;
+            line = refl;
+          })),
+          refl,
+        )
 
     -- there was no memory to lend the block
-    scan_unlent : (mid new : Session) (k : ℕ) (state : State) (told : CoreReply) → k < blocks_of sh t → (s : Scans store old mid own t k state) → (r : ReadsBlock store mid new own t k told)
-        → KeepsLend (view_of mid) (view_of new) → r.made ≡ [] → Answers store old new (Scan t) said.Memory
-    scan_unlent mid new k state told lt s r keeps none' =
-        let le : k ≤ blocks_of sh t = omega (arith, lt) in
-        unlent_call store old mid new own t k told (Scan t) asked s.made is s.went r (is_asked k lt) keeps none' (plain_reads own t s.made (below k) s.events s.plain) (asks s.made) granted_here (record {
-          may = refl;
-          missed = map (event.Read own t) (rest_of (blocks_of sh t) k le).0;
-          events = asks s.made ∙ ap (map (event.Read own t)) (rest_of (blocks_of sh t) k le).1 ∙ map-append (event.Read own t) (below k) (rest_of (blocks_of sh t) k le).0
-              ∙ ap (λ es. es ++ map (event.Read own t) (rest_of (blocks_of sh t) k le).0) (sym s.events);
-          cut = plain_cut s.made s.plain;
-          line = refl;
-        })
+    pub sweep_unlent : (mid new : Session) (k : ℕ) (read : List Row) (told : CoreReply) → k < blocks_of sh t → (s : Scans store old mid own t k read) → (r : ReadsBlock store mid new own t k told)
+        → KeepsLend (view_of mid) (view_of new) → r.made ≡ [] → (answers : Answers store old new c said.Memory) × (answers.made ≡ s.made)
+    unfolding unlent_call
+    sweep_unlent mid new k read told lt s r keeps none' =
+        let le : k ≤ blocks_of sh t = omega (arith, lt) in (
+          unlent_call store old mid new own t k told c asked s.made is s.went r (is_asked k lt) keeps none' (plain_reads own t s.made (below k) s.events s.plain) (asks s.made) granted_here (record {
+            may = sweeps.may;
+            missed = map (event.Read own t) (rest_of (blocks_of sh t) k le).0;
+            events = asks s.made ∙ ap (map (event.Read own t)) (rest_of (blocks_of sh t) k le).1 ∙ map-append (event.Read own t) (below k) (rest_of (blocks_of sh t) k le).0
+                ∙ ap (λ es. es ++ map (event.Read own t) (rest_of (blocks_of sh t) k le).0) (sym s.events);
+            cut = plain_cut s.made s.plain;
+            line = refl;
+          }),
+          refl,
+        )
 
     -- one or the other
-    pub scan_unread : (mid new : Session) (k : ℕ) (state : State) (told : CoreReply) → k < blocks_of sh t → Scans store old mid own t k state → (r : ReadsBlock store mid new own t k told)
-        → KeepsLend (view_of mid) (view_of new) → Answers store old new (Scan t) said.Memory
-    scan_unread mid new k state told lt s r keeps = go r.is_read
+    pub sweep_unread : (mid new : Session) (k : ℕ) (read : List Row) (told : CoreReply) → k < blocks_of sh t → (s : Scans store old mid own t k read) → (r : ReadsBlock store mid new own t k told)
+        → KeepsLend (view_of mid) (view_of new) → Answers store old new c said.Memory
+    sweep_unread mid new k read told lt s r keeps = go r.is_read
       where
-        go : IsReadOf mid.session own t k told r.made → Answers store old new (Scan t) said.Memory
-        go (inl one) = scan_unread_one mid new k state told lt s r keeps one.0 one.1
-        go (inr none') = scan_unlent mid new k state told lt s r keeps none'.1
+        go : IsReadOf mid.session own t k told r.made → Answers store old new c said.Memory
+        go (inl one) = (sweep_unread_one mid new k read told lt s r keeps one.0 one.1).0
+        go (inr none') = (sweep_unlent mid new k read told lt s r keeps none'.1).0
+
+  module _ (old : Session) (is : IsSession store old) (open' : own_of old ≡ Some own) where
+    -- a scan that read all blocks answers with what they told in key order, and has read the table
+    pub scan_whole : (new : Session) (rows : List Row) (s : Scans store old new own t (blocks_of sh t) rows)
+        → (answers : Answers store old (swept t new) (Scan t) (said.Scanned (in_key_order t rows))) × (answers.made ≡ s.made)
+    scan_whole new rows s = sweep_whole old is open' (Scan t) (scan_sweeps store own t) new rows s (said.Scanned (in_key_order t rows)) refl (ap (λ rs. Some (said.Scanned (in_key_order t rs))) s.rows)
+
+    pub scan_unlaid : (new : Session) (k : ℕ) (read : List Row) → k ≤ blocks_of sh t → Scans store old new own t k read → Answers store old new (Scan t) said.Memory
+    scan_unlaid new k read le s = (sweep_unlaid old is open' (Scan t) (scan_sweeps store own t) new k read le s).0
+
+    pub scan_unread : (mid new : Session) (k : ℕ) (read : List Row) (told : CoreReply) → k < blocks_of sh t → (s : Scans store old mid own t k read) → (r : ReadsBlock store mid new own t k told)
+        → KeepsLend (view_of mid) (view_of new) → Answers store old new (Scan t) said.Memory
+    scan_unread = sweep_unread old is open' (Scan t) (scan_sweeps store own t)
 
 -- ---- how a scan's calls end
 
@@ -521,8 +562,8 @@ read_granted E (block.Rows rows) = refl
 read_granted E (block.Lent lend) = refl
 
 -- a scan made one event for each block that it read
-pub scans_count : (store : StoreView) (old new : Session) (own : OwnTransaction) (t k : ℕ) (state : State) → (s : Scans store old new own t k state) → length s.made ≡ k
-scans_count store old new own t k state s =
+pub scans_count : (store : StoreView) (old new : Session) (own : OwnTransaction) (t k : ℕ) (read : List Row) → (s : Scans store old new own t k read) → length s.made ≡ k
+scans_count store old new own t k read s =
     let a : length (events_in s.made) ≡ length s.made = length-map s.made (λ (o : Occurrence). o.event) in
     let b : length {A = CoreEvent} (map (event.Read own t) (below k)) ≡ length (below k) = length-map (below k) (event.Read own t) in
     let c : length (below k) ≡ k = length-range_with_len 0 k in
@@ -530,29 +571,24 @@ scans_count store old new own t k state s =
     omega (arith, a, b, c, d)
 
 -- a scan that read all blocks answers with its rows
-pub scan_ends : (store : StoreView) (own : OwnTransaction) (t : ℕ) (old new : Session) (state : State) (rows : List Row)
-    → IsSession store old → own_of old ≡ Some own → Scans store old new own t (blocks_of (shape_in store) t) state
-    → rows ≡ contents_of t state → Answers store old (swept t new) (Scan t) (said.Scanned rows)
-scan_ends store own t old new state rows is open' s same =
-    subst (λ (rows : List Row). Answers store old (swept t new) (Scan t) (said.Scanned rows)) (sym same) (scan_whole store own t old is open' new state s)
+pub scan_ends : (store : StoreView) (own : OwnTransaction) (t : ℕ) (old new : Session) (read ordered : List Row)
+    → IsSession store old → own_of old ≡ Some own → Scans store old new own t (blocks_of (shape_in store) t) read
+    → ordered ≡ in_key_order t read → Answers store old (swept t new) (Scan t) (said.Scanned ordered)
+scan_ends store own t old new read ordered is open' s same =
+    subst (λ (rows : List Row). Answers store old (swept t new) (Scan t) (said.Scanned rows)) (sym same) (scan_whole store own t old is open' new read s).0
 
 -- what holds in any case holds where there is an answer
 pub ok_if : {T E P : Type 0} (r : Result T E) → P → OnOk r P
 ok_if (Ok v) p = p
 ok_if (Err e) p = tt
 
--- what holds where there is an answer is weakened
-pub ok_with : {T E P Q : Type 0} (r : Result T E) → OnOk r P → (P → Q) → OnOk r Q
-ok_with (Ok v) p f = f p
-ok_with (Err e) p f = tt
-
 -- ---- steps
 
--- So many blocks of the table were read, and their rows were laid, by no more steps than that costs.
+-- So many blocks of the table were read, by no more steps than that costs.
 pub record ScansBy
-    (store : StoreView) (old new : Session) (own : OwnTransaction) (table count : ℕ) (state : State) (spent steps : ℕ)
+    (store : StoreView) (old new : Session) (own : OwnTransaction) (table count : ℕ) (read : List Row) (spent steps : ℕ)
     : Type 0 where
-  pub scans : Scans store old new own table count state
+  pub scans : Scans store old new own table count read
   pub few : steps ≤ spent + scan_cost (shape_in store) table (replies_in scans.made)
 
 module _ (store : StoreView) (own : OwnTransaction) (t : ℕ) where
@@ -564,48 +600,50 @@ module _ (store : StoreView) (own : OwnTransaction) (t : ℕ) where
     few = le_more spent (scan_cost (shape_in store) t []);
   }
 
-  module _ (old mid new : Session) (k : ℕ) (state : State) (told : CoreReply) (spent steps later : ℕ)
-      (s : ScansBy store old mid own t k state spent steps) (r : ReadsBlock store mid new own t k told) (keeps : KeepsLend (view_of mid) (view_of new)) (lt : k < blocks_of (shape_in store) t)
+  module _ (old mid new : Session) (k : ℕ) (read : List Row) (told : CoreReply) (spent steps later : ℕ)
+      (s : ScansBy store old mid own t k read spent steps) (r : ReadsBlock store mid new own t k told) (keeps : KeepsLend (view_of mid) (view_of new)) (lt : k < blocks_of (shape_in store) t)
       (few : later ≤ steps + scan_cost (shape_in store) t (told ∷ [])) where
     few_further : (parts : Parts) → later ≤ spent + scan_cost (shape_in store) t (replies_in (s.scans.made ++ read_at old own t k parts told ∷ []))
     few_further parts = subst (λ (replies : List CoreReply). later ≤ spent + scan_cost (shape_in store) t replies)
         (sym (map-append (λ (o : Occurrence). o.reply) s.scans.made (read_at old own t k parts told ∷ [])))
         (scanned_more (shape_in store) t (replies_in s.scans.made) told spent steps later s.few few)
 
-    -- one block more was read, and its rows were laid
-    pub steps_go_on : (now : State) → is_memory told ≡ false → now ≡ laid t state (rows_told told) → ScansBy store old new own t (k + 1) now spent later
+    -- one block more was read
+    pub steps_go_on : (now : List Row) → is_memory told ≡ false → now ≡ read ++ rows_told told → ScansBy store old new own t (k + 1) now spent later
     unfolding scan_goes_on
     steps_go_on now granted rows = record {
-      scans = scan_goes_on store own t old mid new k state now told s.scans r keeps lt granted rows;
+      scans = scan_goes_on store own t old mid new k read now told s.scans r keeps lt granted rows;
       few = few_further (one_read mid.session own t k told r.made r.is_read granted).0;
     }
 
     -- one block more was read, and there was no memory for it or for its rows
     pub steps_break : (is : IsSession store old) → own_of old ≡ Some own → (r.made ≡ [] → later ≤ steps) → ReadsOnce store old new t said.Memory spent later
-    unfolding scan_unread_one scan_unlent went_call went_swept unlent_call
     steps_break is open' unlooked = go r.is_read
       where
         go : IsReadOf mid.session own t k told r.made → ReadsOnce store old new t said.Memory spent later
-        go (inl one) = record {
-          answers = scan_unread_one store own t old is open' mid new k state told lt s.scans r keeps one.0 one.1;
-          few = few_further one.0;
-        }
-        go (inr none') = record {
-          answers = scan_unlent store own t old is open' mid new k state told lt s.scans r keeps none'.1;
-          few = let first = s.few in let then = unlooked none'.1 in omega (arith, first, then);
-        }
+        go (inl one) =
+            let a = sweep_unread_one store own t old is open' (Scan t) (scan_sweeps store own t) mid new k read told lt s.scans r keeps one.0 one.1 in
+            record { answers = a.0; few = subst (λ (made : List Occurrence). later ≤ spent + scan_cost (shape_in store) t (replies_in made)) (sym a.1) (few_further one.0) }
+        go (inr none') =
+            let a = sweep_unlent store own t old is open' (Scan t) (scan_sweeps store own t) mid new k read told lt s.scans r keeps none'.1 in
+            let first = s.few in
+            let then = unlooked none'.1 in
+            record {
+              answers = a.0;
+              few = subst (λ (made : List Occurrence). later ≤ spent + scan_cost (shape_in store) t (replies_in made)) (sym a.1) (omega (arith, first, then));
+            }
 
   -- behind the last block, with its rows or without memory for them
-  pub steps_end : (old new : Session) (state : State) (spent steps : ℕ) (rows : List Row) (is : IsSession store old) → own_of old ≡ Some own
-      → (s : ScansBy store old new own t (blocks_of (shape_in store) t) state spent steps) → rows ≡ contents_of t state
-      → ReadsOnce store old (swept t new) t (said.Scanned rows) spent steps
-  unfolding scan_whole went_swept
-  steps_end old new state spent steps rows is open' s same =
+  pub steps_end : (old new : Session) (read : List Row) (spent steps : ℕ) (ordered : List Row) (is : IsSession store old) → own_of old ≡ Some own
+      → (s : ScansBy store old new own t (blocks_of (shape_in store) t) read spent steps) → ordered ≡ in_key_order t read
+      → ReadsOnce store old (swept t new) t (said.Scanned ordered) spent steps
+  steps_end old new read spent steps ordered is open' s same =
+      let a = scan_whole store own t old is open' new read s.scans in
       subst (λ (rows : List Row). ReadsOnce store old (swept t new) t (said.Scanned rows) spent steps) (sym same)
-      (record { answers = scan_whole store own t old is open' new state s.scans; few = s.few })
+      (record { answers = a.0; few = subst (λ (made : List Occurrence). steps ≤ spent + scan_cost (shape_in store) t (replies_in made)) (sym a.1) s.few })
 
-  pub steps_unlaid : (old new : Session) (state : State) (spent steps : ℕ) (is : IsSession store old) → own_of old ≡ Some own
-      → (s : ScansBy store old new own t (blocks_of (shape_in store) t) state spent steps) → ReadsOnce store old new t said.Memory spent steps
-  unfolding scan_unlaid went_call went_swept
-  steps_unlaid old new state spent steps is open' s =
-      record { answers = scan_unlaid store own t old is open' new (blocks_of (shape_in store) t) state (omega arith) s.scans; few = s.few }
+  pub steps_unlaid : (old new : Session) (read : List Row) (spent steps : ℕ) (is : IsSession store old) → own_of old ≡ Some own
+      → (s : ScansBy store old new own t (blocks_of (shape_in store) t) read spent steps) → ReadsOnce store old new t said.Memory spent steps
+  steps_unlaid old new read spent steps is open' s =
+      let a = sweep_unlaid store own t old is open' (Scan t) (scan_sweeps store own t) new (blocks_of (shape_in store) t) read (omega arith) s.scans in
+      record { answers = a.0; few = subst (λ (made : List Occurrence). steps ≤ spent + scan_cost (shape_in store) t (replies_in made)) (sym a.1) s.few }

@@ -15,7 +15,7 @@ use Rattle.event_spec.specs.Lawful.{OwnsAll}
 use Rattle.event_spec.specs.Parts.{Parts, Shape, below, blocks_of, tables_of}
 use Rattle.event_spec.specs.Plans.{plan_of}
 use Rattle.event_spec.specs.Replies.{CoreReply}
-use Rattle.isolation_spec.specs.Contents.{History, State, WriteSet, contents_of}
+use Rattle.isolation_spec.specs.Contents.{History, WriteSet, contents_of}
 use Rattle.run_spec.specs.Asked.{at_all_blocks, at_blocks, by_own, events_of, looks_in, moves, oldest_told}
 use Rattle.run_spec.specs.Calls.{Call, IsCallBy}
 use Rattle.run_spec.specs.Handed.{GoesOn, Stretch, own_in}
@@ -27,10 +27,10 @@ use Rattle.run_spec.specs.Occurrences.{Occurrence, events_in, replies_in}
 use Rattle.run_spec.specs.Opened.{own_after, own_behind}
 use Rattle.run_spec.specs.Told.{refusal_of}
 use Rattle.store_laws.specs.Machines.{HasOpenIn, rows_seen}
-use Rattle.store_laws.specs.Own.{StandsUnder}
+use Rattle.store_laws.specs.Own.{StandsUnder, parts_after}
 use Rattle.store_laws.proofs.Entries.{replay_same}
 use Rattle.store_laws.proofs.Machines.{AreQuiet, more_commits, quiet_on}
-use Rattle.store_laws.proofs.Scanning.{reads_tell_the_rows}
+use Rattle.store_laws.proofs.Scanning.{reads_tell_each_once, reads_tell_the_rows}
 use Rattle.store_laws.proofs.Stepping.{more_again, open_on}
 use Rattle.workload_spec.specs.declared.command.Command.{Command}
 use Rattle.workload_spec.specs.declared.command.Command.TheVariants as command
@@ -46,6 +46,11 @@ use Rattle.shared_store.proofs.Open.{measures_of, under_of}
 use Rattle.shared_store.proofs.Scanned.{plain_granted}
 use Rattle.shared_store.proofs.Swept.{at_tables}
 use Rattle.isolation_spec.specs.Reads.{ReadSet}
+use Rattle.run_spec.specs.Occurrences.{Logged}
+use Rattle.run_spec.specs.Told.{in_key_order}
+use Rattle.event_spec.specs.Replay.{IsLawfulLog}
+use Rattle.store_laws.specs.Logs.{made_in}
+use Rattle.store_laws.specs.Scans.{HaveOwnKeys}
 
 -- ---- events that ask the machine nothing
 
@@ -145,6 +150,7 @@ keeps_own own (event.Insert k table row) told is = cc
 keeps_own own (event.Update k table row) told is = cc
 keeps_own own (event.Delete k table key) told is = cc
 keeps_own own (event.Read t table block) told is = refl
+keeps_own own (event.Range t table low high) told is = refl
 keeps_own own (event.Commit t reads) told is = cc
 keeps_own own (event.Abort t) told is = cc
 keeps_own own event.Oldest told is = refl
@@ -269,8 +275,8 @@ reads_ask : (own : OwnTransaction) (table : ℕ) (blocks : List ℕ) → AskNoth
 reads_ask own table blocks = nothing_of (event.Read own table) (λ block. refl) blocks
 
 -- a scan that read some blocks
-pub scan_leaves : (store : StoreView) (old new : Session) (own : OwnTransaction) (table count : ℕ) (state : State) → Scans store old new own table count state → LeavesOpen store old new
-scan_leaves store old new own table count state s =
+pub scan_leaves : (store : StoreView) (old new : Session) (own : OwnTransaction) (table count : ℕ) (read : List Row) → Scans store old new own table count read → LeavesOpen store old new
+scan_leaves store old new own table count read s =
     went_leaves store old new (at_blocks (shape_in store) table (event.Read own table)) s.made s.went (subst AskNothing (sym s.events) (reads_ask own table (below count)))
 
 -- one behind another
@@ -282,46 +288,66 @@ leaves_on store old mid new first then = record {
 }
 
 -- What was open stays so, and of an answer without rows nothing is said.
-pub scan_unread_finds : {E : Type 0} (store : StoreView) (old mid new : Session) (own : OwnTransaction) (table count : ℕ) (state : State) (told : CoreReply) (found : Result (List Row) E)
-    → Scans store old mid own table count state → ReadsBlock store mid new own table count told → IsErr found → FindsRows store old new table found
-scan_unread_finds store old mid new own table count state told (Ok rows) s r err commits writes o = absurd (true≢false (sym err))
-scan_unread_finds store old mid new own table count state told (Err memory) s r err commits writes o = record {
-  is_open = (leaves_on store old mid new (scan_leaves store old mid own table count state s) (read_leaves store mid new own table count told r)).is_open commits writes o;
+pub scan_unread_finds : {E : Type 0} (store : StoreView) (old mid new : Session) (own : OwnTransaction) (table count : ℕ) (read : List Row) (told : CoreReply) (found : Result (List Row) E)
+    → Scans store old mid own table count read → ReadsBlock store mid new own table count told → IsErr found → FindsRows store old new table found
+scan_unread_finds store old mid new own table count read told (Ok rows) s r err commits writes o = absurd (true≢false (sym err))
+scan_unread_finds store old mid new own table count read told (Err memory) s r err commits writes o = record {
+  is_open = (leaves_on store old mid new (scan_leaves store old mid own table count read s) (read_leaves store mid new own table count told r)).is_open commits writes o;
   rows = tt;
 }
 
--- The rows of a scan that read all blocks are those that the transaction sees.
-scanned_rows : (store : StoreView) (old new : Session) (own : OwnTransaction) (table : ℕ) (state : State) (commits : History) (writes : WriteSet)
-    → IsSession store old → own_of old ≡ Some own → Scans store old new own table (blocks_of (shape_in store) table) state → IsOpen store old commits writes
-    → contents_of table state ≡ contents_of table (rows_seen commits writes)
-scanned_rows store old new own table state commits writes is some' s o =
-    let owns = own_stands store old own is some' in
-    let mine : old.session ≡ own.session = sym owns.0 in
-    let whole = whole_log (shape_in store) old.session (seen old) (seen new) s.made s.went.stretch in
-    ap (contents_of table) s.rows
-    ∙ reads_tell_the_rows (shape_in store) (seen old) whole s.made own table commits writes (measures_of store old is)
-    (whole_lawful (shape_in store) old.session (seen old) (seen new) s.made s.went.stretch s.went.session.lawful) (as_log s.went.stretch.trace, refl)
-    (subst (λ q. StandsUnder q whole) mine (whole_under (shape_in store) old.session (seen old) (seen new) s.made s.went.stretch (under_of store old.session new s.went.session s.went.same)))
-    (subst (λ (parts : Parts). OwnsAll (shape_in store) own parts) (replay_same (shape_in store) old.pass.seat.me.0.log) owns.1)
-    (subst (λ q. HasOpenIn q (machine_of store old) commits writes) mine o.has)
-    (subst (λ q. own_in (shape_in store) q whole ≡ own_in (shape_in store) q (seen old) ++ s.made) mine (whole_own (shape_in store) old.session (seen old) (seen new) s.made s.went.stretch))
-    s.events (plain_granted s.made s.plain)
+-- What a scan has of the log with its lends.
+module _ (store : StoreView) (old new : Session) (own : OwnTransaction) (table : ℕ) (read : List Row)
+    (is : IsSession store old) (some' : own_of old ≡ Some own) (s : Scans store old new own table (blocks_of (shape_in store) table) read) where
+  mine : old.session ≡ own.session
+  mine = sym (own_stands store old own is some').0
 
-pub scan_finds : {E : Type 0} (store : StoreView) (old new : Session) (own : OwnTransaction) (table : ℕ) (state : State) (found : Result (List Row) E)
-    → IsSession store old → own_of old ≡ Some own → Scans store old new own table (blocks_of (shape_in store) table) state
-    → IfOk found (λ rows. rows ≡ contents_of table state) → FindsRows store old new table found
-scan_finds store old new own table state (Ok rows) is some' s same commits writes o = record {
-  is_open = (scan_leaves store old new own table (blocks_of (shape_in store) table) state s).is_open commits writes o;
-  rows = same ∙ scanned_rows store old new own table state commits writes is some' s o;
+  -- the log in which each lend is its read
+  abbrev whole : List Logged
+  whole = whole_log (shape_in store) old.session (seen old) (seen new) s.made s.went.stretch
+
+  lawful : IsLawfulLog (shape_in store) (made_in whole)
+  lawful = whole_lawful (shape_in store) old.session (seen old) (seen new) s.made s.went.stretch s.went.session.lawful
+
+  goes : GoesOn (seen old) whole
+  goes = (as_log s.went.stretch.trace, refl)
+
+  named : StandsUnder own.session whole
+  named = subst (λ q. StandsUnder q whole) mine (whole_under (shape_in store) old.session (seen old) (seen new) s.made s.went.stretch (under_of store old.session new s.went.session s.went.same))
+
+  owns : OwnsAll (shape_in store) own (parts_after (shape_in store) (seen old))
+  owns = subst (λ (parts : Parts). OwnsAll (shape_in store) own parts) (replay_same (shape_in store) old.pass.seat.me.0.log) (own_stands store old own is some').1
+
+  grown : own_in (shape_in store) own.session whole ≡ own_in (shape_in store) own.session (seen old) ++ s.made
+  grown = subst (λ q. own_in (shape_in store) q whole ≡ own_in (shape_in store) q (seen old) ++ s.made) mine (whole_own (shape_in store) old.session (seen old) (seen new) s.made s.went.stretch)
+
+  -- The rows of a scan that read all blocks are in key order those that the transaction sees.
+  scanned_rows : (commits : History) (writes : WriteSet) → IsOpen store old commits writes → in_key_order table read ≡ contents_of table (rows_seen commits writes)
+  scanned_rows commits writes o =
+      ap (in_key_order table) s.rows
+      ∙ (reads_tell_the_rows (shape_in store) (seen old) whole s.made own table commits writes (measures_of store old is) lawful goes named owns
+      (subst (λ q. HasOpenIn q (machine_of store old) commits writes) mine o.has) grown s.events (plain_granted s.made s.plain)).ordered
+
+  -- and no two have one key
+  pub scan_once : HaveOwnKeys table read
+  scan_once = subst (HaveOwnKeys table) (sym s.rows)
+      (reads_tell_each_once (shape_in store) (seen old) whole s.made own table (measures_of store old is) lawful goes named owns grown s.events (plain_granted s.made s.plain))
+
+pub scan_finds : {E : Type 0} (store : StoreView) (old new : Session) (own : OwnTransaction) (table : ℕ) (read : List Row) (found : Result (List Row) E)
+    → IsSession store old → own_of old ≡ Some own → Scans store old new own table (blocks_of (shape_in store) table) read
+    → IfOk found (λ rows. rows ≡ in_key_order table read) → FindsRows store old new table found
+scan_finds store old new own table read (Ok rows) is some' s same commits writes o = record {
+  is_open = (scan_leaves store old new own table (blocks_of (shape_in store) table) read s).is_open commits writes o;
+  rows = same ∙ scanned_rows store old new own table read is some' s commits writes o;
 }
-scan_finds store old new own table state (Err memory) is some' s same commits writes o = record {
-  is_open = (scan_leaves store old new own table (blocks_of (shape_in store) table) state s).is_open commits writes o;
+scan_finds store old new own table read (Err memory) is some' s same commits writes o = record {
+  is_open = (scan_leaves store old new own table (blocks_of (shape_in store) table) read s).is_open commits writes o;
   rows = tt;
 }
 
 -- Nor is anything said where there was no memory for the rows of all blocks.
-pub scan_unlaid_finds : {E : Type 0} (store : StoreView) (old new : Session) (own : OwnTransaction) (table : ℕ) (state : State) (found : Result (List Row) E)
-    → IsSession store old → own_of old ≡ Some own → Scans store old new own table (blocks_of (shape_in store) table) state
+pub scan_unlaid_finds : {E : Type 0} (store : StoreView) (old new : Session) (own : OwnTransaction) (table : ℕ) (read : List Row) (found : Result (List Row) E)
+    → IsSession store old → own_of old ≡ Some own → Scans store old new own table (blocks_of (shape_in store) table) read
     → IsErr found → FindsRows store old new table found
-scan_unlaid_finds store old new own table state (Ok rows) is some' s err = absurd (true≢false (sym err))
-scan_unlaid_finds store old new own table state (Err memory) is some' s err = scan_finds store old new own table state (Err memory) is some' s tt
+scan_unlaid_finds store old new own table read (Ok rows) is some' s err = absurd (true≢false (sym err))
+scan_unlaid_finds store old new own table read (Err memory) is some' s err = scan_finds store old new own table read (Err memory) is some' s tt

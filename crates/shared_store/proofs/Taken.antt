@@ -1,6 +1,6 @@
 -- Parts that are taken as they are marked.
-use Rattle.std.proofs.Common.{◌≡◌, ℕ, zero, suc, ◌+◌, ◌*◌, ◌^◌, ◌<◌, ◌≤◌, Bool, true, false, ◌||◌, List, [], ◌∷◌, ◌++◌, Option, None, Some, length, set, take, replicate, refl, sym, ap, subst, ◌∙◌, true≢false, arith}
-use Rattle.std.specs.Prelude.{All, IfSome, get_or, slice_get}
+use Rattle.std.proofs.Common.{◌≡◌, ℕ, zero, suc, ℤ, ◌+◌, ◌*◌, ◌^◌, ◌<◌, ◌≤◌, Bool, true, false, ◌||◌, List, [], ◌∷◌, ◌++◌, Option, None, Some, length, set, take, replicate, refl, sym, ap, subst, ◌∙◌, true≢false, arith}
+use Rattle.std.specs.Prelude.{All, get_or, option_to_list, slice_get}
 use Rattle.std.specs.List.{list_any}
 use Rattle.std.proofs.lemmas.List.{length-map}
 use Rattle.core_laws.proofs.Frames.Order.{ascends}
@@ -19,20 +19,22 @@ use Rattle.event_spec.specs.Effects.{CoreEvent}
 use Rattle.event_spec.specs.Newest.{judged_reads}
 use Rattle.event_spec.specs.Parts.{BodyOf, CorePart, HeadOf, Name, ShardOf, Shape, TheDesk, held_named, names, same_name, shard_from, shard_of}
 use Rattle.event_spec.specs.Replay.{opening_part}
-use Rattle.event_spec.specs.Touched.{is_body_written, passes_test, touched, touched_by_got, touched_by_key, touched_by_range, touched_by_reads, touching}
+use Rattle.event_spec.specs.Touched.{held_keys, held_places, is_body_of, is_body_written, is_shard_in, passes_test, touched, touched_by_got, touched_by_key, touched_by_range, touched_by_reads, touching}
 use Rattle.hall_rule.proofs.Lists.{by_cases, get_set_else}
 use Rattle.hall_rule.specs.HallInvariant.{hands_of}
 use Rattle.hall_rule.specs.Hands.{Covers, Holds}
 use Rattle.hall_steps.proofs.Walking.{Walked, first_room, sees_on, sees_same, took_more, took_none, walk_on}
 use Rattle.hall_steps.specs.Hall.{IsPass, Looks, first_of}
-use Rattle.isolation_spec.specs.Contents.{PlaceMap}
+use Rattle.isolation_spec.specs.Contents.{at_place, place_at}
 use Rattle.isolation_spec.specs.Reads.{ReadSet}
 use Rattle.isolation_spec.specs.declared.place.Place.{Place}
+use Rattle.isolation_spec.specs.declared.read.KeyRange.{KeyRange}
 use Rattle.key_index.specs.Candidates.{candidates_of}
 use Rattle.store_laws.specs.Logs.{store_meaning}
 use Rattle.shared_store.specs.Making.{Takes}
 use Rattle.shared_store.specs.Store.{HandsView, IsAt, SeatView, StoreView, shape_in}
-use Rattle.shared_store.specs.Taking.{IsTaken, Marked, StaysTold, TakesMarked, Tells, has_one, is_marked}
+use Rattle.shared_store.specs.Taking.{IsMarked, IsTaken, Marked, StaysTold, TakesMarked, Tells, has_one, is_marked}
+use Rattle.shared_store.proofs.Hands.{range_alike}
 use Rattle.shared_store.proofs.Made.{taken_event}
 use Rattle.shared_store.proofs.Marking.{among_at}
 
@@ -116,53 +118,89 @@ any_same : {X : Type 0} (f g : X → Bool) (xs : List X) → ((x : X) → f x �
 any_same f g [] same = refl
 any_same f g (x ∷ xs) same = ap (λ b. b || list_any f xs) (same x) ∙ ap (λ b. g x || b) (any_same f g xs same)
 
-judged_plain : (writes : PlaceMap ℕ) (reads : Option ReadSet) → IfSome reads (λ set. set.ranges ≡ []) → IfSome (judged_reads writes reads) (λ set. set.ranges ≡ [])
-judged_plain [] reads plain = tt
-judged_plain (w ∷ ws) reads plain = plain
-
 module _ (sh : Shape) (one other : List (Option CorePart)) where
-  -- reads without ranges touch alike where each key does
-  reads_same : (n : Name) (o : Option ReadSet) → IfSome o (λ set. set.ranges ≡ [])
+  -- reads touch alike where each key and each range does
+  reads_same : (n : Name) (o : Option ReadSet)
       → ((p : Place) → touched_by_got sh (held_named (names sh) one) p n ≡ touched_by_got sh (held_named (names sh) other) p n)
+      → ((r : KeyRange) → touched_by_range sh (held_named (names sh) one) r n ≡ touched_by_range sh (held_named (names sh) other) r n)
       → touched_by_reads sh (held_named (names sh) one) o n ≡ touched_by_reads sh (held_named (names sh) other) o n
-  reads_same n None plain same = refl
-  reads_same n (Some set) plain same =
+  reads_same n None keys ranges = refl
+  reads_same n (Some set) keys ranges =
       ap (λ b. b || list_any (λ range. touched_by_range sh (held_named (names sh) one) range n) set.ranges)
-      (any_same (λ p. touched_by_got sh (held_named (names sh) one) p n) (λ p. touched_by_got sh (held_named (names sh) other) p n) set.places same)
+      (any_same (λ p. touched_by_got sh (held_named (names sh) one) p n) (λ p. touched_by_got sh (held_named (names sh) other) p n) set.places keys)
       ∙ ap (λ b. list_any (λ p. touched_by_got sh (held_named (names sh) other) p n) set.places || b)
-      (ap (list_any (λ range. touched_by_range sh (held_named (names sh) one) range n)) plain
-      ∙ sym (ap (list_any (λ range. touched_by_range sh (held_named (names sh) other) range n)) plain))
+      (any_same (λ r. touched_by_range sh (held_named (names sh) one) r n) (λ r. touched_by_range sh (held_named (names sh) other) r n) set.ranges ranges)
 
-  commit_same : (own : OwnTransaction) (reads : Option ReadSet) (n : Name) → IfSome reads (λ set. set.ranges ≡ [])
+  commit_same : (own : OwnTransaction) (reads : Option ReadSet) (n : Name)
       → ((p : Place) → touched_by_got sh (held_named (names sh) one) p n ≡ touched_by_got sh (held_named (names sh) other) p n)
+      → ((r : KeyRange) → touched_by_range sh (held_named (names sh) one) r n ≡ touched_by_range sh (held_named (names sh) other) r n)
       → touched sh (held_named (names sh) one) (event.Commit own reads) n ≡ touched sh (held_named (names sh) other) (event.Commit own reads) n
-  commit_same own reads n plain same = ap (λ b. (is_body_written own.writes n || b) || same_name TheDesk n)
-      (reads_same n (judged_reads own.writes reads) (judged_plain own.writes reads plain) same)
+  commit_same own reads n keys ranges = ap (λ b. (is_body_written own.writes n || b) || same_name TheDesk n)
+      (reads_same n (judged_reads own.writes reads) keys ranges)
+
+-- nothing of a list passes a test that nothing passes
+none_passes : {X : Type 0} (xs : List X) → list_any (λ x. false) xs ≡ false
+none_passes [] = refl
+none_passes (x ∷ xs) = none_passes xs
+
+-- An event touches a name alike for hands that tell the same of it, whichever parts are held.
+abbrev Alike : Shape → CoreEvent → List (Option CorePart) → List (Option CorePart) → Name → Type 0
+Alike sh e one other w = touched sh (held_named (names sh) one) e w ≡ touched sh (held_named (names sh) other) e w
+
+-- What is told of a name is told of its number.
+at_number : (sh : Shape) (e : CoreEvent) (one other : List (Option CorePart)) (k : ℕ) → ((w : Name) → slice_get (names sh) k ≡ Some w → Alike sh e one other w)
+    → touching sh e one k ≡ touching sh e other k
+at_number sh e one other k same = go (slice_get (names sh) k) refl
+  where
+    go : (o : Option Name) → slice_get (names sh) k ≡ o → touching sh e one k ≡ touching sh e other k
+    go None at = ap (passes_test (touched sh (held_named (names sh) one) e)) at ∙ sym (ap (passes_test (touched sh (held_named (names sh) other) e)) at)
+    go (Some w) at = ap (passes_test (touched sh (held_named (names sh) one) e)) at ∙ same w at ∙ sym (ap (passes_test (touched sh (held_named (names sh) other) e)) at)
 
 -- Whether a part is touched that is a head or a shard no hand tells.
-pub low_stays : (sh : Shape) (own : OwnTransaction) (reads : Option ReadSet) → IsKeyed (event.Commit own reads) → StaysTold sh (event.Commit own reads) 0 (9 * length sh.tables)
-low_stays sh own reads plain hand n p k from less low high = go (slice_get (names sh) k) refl
+pub low_stays : (sh : Shape) (e : CoreEvent) → IsMarked e → StaysTold sh e 0 (9 * length sh.tables)
+low_stays sh e marked hand n p k from less low high = at_number sh e (set hand n (Some p)) hand k (λ w at. told w (low_at sh k w at high) e marked)
   where
-    e : CoreEvent
-    e = event.Commit own reads
+    -- of a range no body is a head or a shard
+    ranged : (w : Name) → is_low w ≡ true → (front : ℤ → List ℕ) (held : Name → Option CorePart) (t : ℕ) (low high : ℤ)
+        → (is_shard_in t w || list_any (λ key. is_body_of t (front key ++ held_places sh held t key) w) (held_keys sh held t low high)) ≡ (is_shard_in t w || false)
+    ranged (HeadOf u) is front held t low high = ap (λ b. is_shard_in t (HeadOf u) || b) (none_passes (held_keys sh held t low high))
+    ranged (ShardOf u i) is front held t low high = ap (λ b. is_shard_in t (ShardOf u i) || b) (none_passes (held_keys sh held t low high))
+    ranged (BodyOf u b) is front held t low high = absurd (true≢false (sym is))
+    ranged TheDesk is front held t low high = absurd (true≢false (sym is))
 
-    low_name : (w : Name) → is_low w ≡ true → touched sh (held_named (names sh) (set hand n (Some p))) e w ≡ touched sh (held_named (names sh) hand) e w
-    low_name (HeadOf t) is = commit_same sh (set hand n (Some p)) hand own reads (HeadOf t) plain (λ q. refl)
-    low_name (ShardOf t i) is = commit_same sh (set hand n (Some p)) hand own reads (ShardOf t i) plain (λ q. refl)
-    low_name (BodyOf t b) is = absurd (true≢false (sym is))
-    low_name TheDesk is = absurd (true≢false (sym is))
+    got : (w : Name) → is_low w ≡ true → (q : Place) → touched_by_got sh (held_named (names sh) (set hand n (Some p))) q w ≡ touched_by_got sh (held_named (names sh) hand) q w
+    got (HeadOf u) is q = refl
+    got (ShardOf u i) is q = refl
+    got (BodyOf u b) is q = absurd (true≢false (sym is))
+    got TheDesk is q = absurd (true≢false (sym is))
 
-    go : (o : Option Name) → slice_get (names sh) k ≡ o → touching sh e (set hand n (Some p)) k ≡ touching sh e hand k
-    go None at = ap (passes_test (touched sh (held_named (names sh) (set hand n (Some p))) e)) at ∙ sym (ap (passes_test (touched sh (held_named (names sh) hand) e)) at)
-    go (Some w) at = ap (passes_test (touched sh (held_named (names sh) (set hand n (Some p))) e)) at ∙ low_name w (low_at sh k w at high) ∙ sym (ap (passes_test (touched sh (held_named (names sh) hand) e)) at)
+    told : (w : Name) → is_low w ≡ true → (e : CoreEvent) → IsMarked e → Alike sh e (set hand n (Some p)) hand w
+    told w is (event.Range own t low high) marked =
+        ranged w is (λ key. option_to_list (at_place own.writes (place_at t key))) (held_named (names sh) (set hand n (Some p))) t low high
+        ∙ sym (ranged w is (λ key. option_to_list (at_place own.writes (place_at t key))) (held_named (names sh) hand) t low high)
+    told w is (event.Commit own reads) marked = commit_same sh (set hand n (Some p)) hand own reads w (got w is)
+        (λ r. ranged w is (λ key. []) (held_named (names sh) (set hand n (Some p))) r.table r.low r.high
+        ∙ sym (ranged w is (λ key. []) (held_named (names sh) hand) r.table r.low r.high))
+    told w is (event.Begin session) marked = absurd marked
+    told w is (event.Get own t key) marked = absurd marked
+    told w is (event.Insert own t row) marked = absurd marked
+    told w is (event.Update own t row) marked = absurd marked
+    told w is (event.Delete own t key) marked = absurd marked
+    told w is (event.Read own t b) marked = absurd marked
+    told w is (event.Abort own) marked = absurd marked
+    told w is event.Oldest marked = absurd marked
+    told w is (event.Observe t b) marked = absurd marked
+    told w is (event.Prune t b oldest) marked = absurd marked
+    told w is (event.Look t b) marked = absurd marked
+    told w is (event.Move t moves) marked = absurd marked
+    told w is (event.Seal t b) marked = absurd marked
+    told w is (event.Image t b image) marked = absurd marked
+    told w is (event.Thaw t b) marked = absurd marked
 
 -- What bodies and the desk tell is the same with one more of them.
-pub high_stays : (sh : Shape) (own : OwnTransaction) (reads : Option ReadSet) → IsKeyed (event.Commit own reads) → StaysTold sh (event.Commit own reads) (9 * length sh.tables) (length (names sh))
-high_stays sh own reads plain hand n p k from less low high = go (slice_get (names sh) k) refl
+pub high_stays : (sh : Shape) (e : CoreEvent) → IsMarked e → StaysTold sh e (9 * length sh.tables) (length (names sh))
+high_stays sh e marked hand n p k from less low high = at_number sh e (set hand n (Some p)) hand k (λ w at. told w e marked)
   where
-    e : CoreEvent
-    e = event.Commit own reads
-
     other : (w : Name) (t i : ℕ) → is_low w ≡ false → same_name w (ShardOf t i) ≡ false
     other (HeadOf t') t i is = absurd (true≢false is)
     other (ShardOf t' j) t i is = absurd (true≢false is)
@@ -175,14 +213,27 @@ high_stays sh own reads plain hand n p k from less low high = go (slice_get (nam
         ap (λ h. held_named (names sh) h (ShardOf t i)) (laid_is (names sh) hand w.0 n (Some p) (named_once sh) w.1)
         ∙ laid_other (names sh) hand w.0 (ShardOf t i) (Some p) (other w.0 t i (high_at sh n w.0 w.1 from))
 
-    same : (w : Name) (q : Place) → touched_by_got sh (held_named (names sh) (set hand n (Some p))) q w ≡ touched_by_got sh (held_named (names sh) hand) q w
-    same w q = ap (λ x. touched_by_key q.table q.key (candidates_of (shard_from x) q.key) w) (shard q.table (shard_of q.key))
-
-    go : (o : Option Name) → slice_get (names sh) k ≡ o → touching sh e (set hand n (Some p)) k ≡ touching sh e hand k
-    go None at = ap (passes_test (touched sh (held_named (names sh) (set hand n (Some p))) e)) at ∙ sym (ap (passes_test (touched sh (held_named (names sh) hand) e)) at)
-    go (Some w) at =
-        ap (passes_test (touched sh (held_named (names sh) (set hand n (Some p))) e)) at
-        ∙ commit_same sh (set hand n (Some p)) hand own reads w plain (same w) ∙ sym (ap (passes_test (touched sh (held_named (names sh) hand) e)) at)
+    told : (w : Name) (e : CoreEvent) → IsMarked e → Alike sh e (set hand n (Some p)) hand w
+    told w (event.Range own t low high) marked =
+        range_alike sh (held_named (names sh) (set hand n (Some p))) (held_named (names sh) hand) (λ key. option_to_list (at_place own.writes (place_at t key))) t low high w (shard t)
+    told w (event.Commit own reads) marked = commit_same sh (set hand n (Some p)) hand own reads w
+        (λ q. ap (λ x. touched_by_key q.table q.key (candidates_of (shard_from x) q.key) w) (shard q.table (shard_of q.key)))
+        (λ r. range_alike sh (held_named (names sh) (set hand n (Some p))) (held_named (names sh) hand) (λ key. []) r.table r.low r.high w (shard r.table))
+    told w (event.Begin session) marked = absurd marked
+    told w (event.Get own t key) marked = absurd marked
+    told w (event.Insert own t row) marked = absurd marked
+    told w (event.Update own t row) marked = absurd marked
+    told w (event.Delete own t key) marked = absurd marked
+    told w (event.Read own t b) marked = absurd marked
+    told w (event.Abort own) marked = absurd marked
+    told w event.Oldest marked = absurd marked
+    told w (event.Observe t b) marked = absurd marked
+    told w (event.Prune t b oldest) marked = absurd marked
+    told w (event.Look t b) marked = absurd marked
+    told w (event.Move t moves) marked = absurd marked
+    told w (event.Seal t b) marked = absurd marked
+    told w (event.Image t b image) marked = absurd marked
+    told w (event.Thaw t b) marked = absurd marked
 
 -- ---- the marks tell it
 
@@ -198,14 +249,15 @@ marks_tell sh e hand none marks from to keyed is marked within k low high =
     ∙ touching_any sh hand e keyed k
 
 -- the marks of one shape and one hand, as they are
-pub marked_by : (sh sh' : Shape) (own : OwnTransaction) (reads : Option ReadSet) (hand hand' : List (Option CorePart)) (none none' marks marks' : List Bool)
-    → sh' ≡ sh → hand' ≡ hand → none' ≡ none → marks' ≡ marks
-    → Marked sh' (touched_names sh' (in_hand sh' hand') (event.Commit own reads)) none' marks → Marked sh (touched_names sh (in_hand sh hand) (event.Commit own reads)) none marks'
-marked_by sh sh' own reads hand hand' none none' marks marks' shape held unmarked same is =
-    subst (λ ms. Marked sh (touched_names sh (in_hand sh hand) (event.Commit own reads)) none ms) (sym same)
-    (subst (λ ms. Marked sh (touched_names sh (in_hand sh hand) (event.Commit own reads)) ms marks) unmarked
-    (subst (λ h. Marked sh (touched_names sh (in_hand sh h) (event.Commit own reads)) none' marks) held
-    (subst (λ s. Marked s (touched_names s (in_hand s hand') (event.Commit own reads)) none' marks) shape is)))
+pub marked_by : (sh sh' : Shape) (e e' : CoreEvent) (hand hand' : List (Option CorePart)) (none none' marks marks' : List Bool)
+    → sh' ≡ sh → e' ≡ e → hand' ≡ hand → none' ≡ none → marks' ≡ marks
+    → Marked sh' (touched_names sh' (in_hand sh' hand') e') none' marks → Marked sh (touched_names sh (in_hand sh hand) e) none marks'
+marked_by sh sh' e e' hand hand' none none' marks marks' shape event held unmarked same is =
+    subst (λ ms. Marked sh (touched_names sh (in_hand sh hand) e) none ms) (sym same)
+    (subst (λ ms. Marked sh (touched_names sh (in_hand sh hand) e) ms marks) unmarked
+    (subst (λ h. Marked sh (touched_names sh (in_hand sh h) e) none' marks) held
+    (subst (λ x. Marked sh (touched_names sh (in_hand sh hand') x) none' marks) event
+    (subst (λ s. Marked s (touched_names s (in_hand s hand') e') none' marks) shape is))))
 
 -- ---- taking
 
@@ -287,20 +339,17 @@ module _ (store : StoreView) (s t : SeatView) (hands later : HandsView) (marks :
               (record { below = r.1.below; only = r.1.only; covered = r.1.covered })
               (omega arith, room, sym (r.0 at (omega arith) less) ∙ marked, λ k low high. absurd (omega (arith, low, high))) hand.1
 
--- ---- a commit
+-- ---- a commit or a range
 
 -- Its shards were taken as they are marked, and then its bodies and the desk.
-module _ (store : StoreView) (s t u : SeatView) (hands mid later : HandsView) (low high none : List Bool) (own : OwnTransaction) (reads : Option ReadSet) (bodies to : ℕ)
-    (keyed : IsKeyed (event.Commit own reads)) (first : bodies ≡ 9 * length (shape_in store).tables) (last : to ≡ length (names (shape_in store)))
+module _ (store : StoreView) (s t u : SeatView) (hands mid later : HandsView) (low high none : List Bool) (e : CoreEvent) (bodies to : ℕ)
+    (keyed : IsKeyed e) (is_marked : IsMarked e) (first : bodies ≡ 9 * length (shape_in store).tables) (last : to ≡ length (names (shape_in store)))
     (empty : (k : ℕ) → Holds (first_of hands) k → ⊥) (one : hands_of s.me.0 ≡ 1) (above : bodies ≤ to)
     (is_none : none ≡ replicate (length (names (shape_in store))) false) (room : length none ≡ length (names (shape_in store)))
-    (lows : Marked (shape_in store) (touched_names (shape_in store) (in_hand (shape_in store) (first_of hands)) (event.Commit own reads)) none low)
-    (highs : Marked (shape_in store) (touched_names (shape_in store) (in_hand (shape_in store) (first_of mid)) (event.Commit own reads)) none high)
+    (lows : Marked (shape_in store) (touched_names (shape_in store) (in_hand (shape_in store) (first_of hands)) e) none low)
+    (highs : Marked (shape_in store) (touched_names (shape_in store) (in_hand (shape_in store) (first_of mid)) e) none high)
     (shards : TakesMarked store s t hands mid low 0 bodies bodies) (rest : TakesMarked store t u mid later high bodies to to)
   where
-    abbrev e : CoreEvent
-    e = event.Commit own reads
-
     abbrev sh : Shape
     sh = shape_in store
 
@@ -313,24 +362,24 @@ module _ (store : StoreView) (s t u : SeatView) (hands mid later : HandsView) (l
     }
 
     halfway : IsTaken sh e bodies (first_of mid)
-    halfway = (shards.taken e (subst (StaysTold sh e 0) (sym first) (low_stays sh own reads keyed))
+    halfway = (shards.taken e (subst (StaysTold sh e 0) (sym first) (low_stays sh e is_marked))
         (marks_tell sh e (first_of hands) none low 0 bodies keyed is_none lows (omega (arith, above, last, room))) starts).1
 
     whole : IsTaken sh e to (first_of later)
-    whole = (rest.taken e (subst (λ n. StaysTold sh e n to) (sym first) (subst (StaysTold sh e (9 * length sh.tables)) (sym last) (high_stays sh own reads keyed)))
+    whole = (rest.taken e (subst (λ n. StaysTold sh e n to) (sym first) (subst (StaysTold sh e (9 * length sh.tables)) (sym last) (high_stays sh e is_marked)))
         (marks_tell sh e (first_of mid) none high bodies to keyed is_none highs (omega (arith, last, room))) halfway).1
 
-    pub commit_covers : Covers (touching sh e) (first_of later)
-    commit_covers k less touched =
+    pub marks_cover : Covers (touching sh e) (first_of later)
+    marks_cover k less touched =
         let r = taking_room store u later rest.pass (taking_hands store t u mid later high bodies to to rest (taking_hands store s t hands mid low 0 bodies bodies shards one)) in
         whole.covered k (omega (arith, less, r, last)) touched
 
-    pub commit_only : (k : ℕ) → Holds (first_of later) k → touching sh e (first_of later) k ≡ true
-    commit_only k held = whole.only k held
+    pub marks_only : (k : ℕ) → Holds (first_of later) k → touching sh e (first_of later) k ≡ true
+    marks_only k held = whole.only k held
 
-    pub commit_takes : (session : ℕ) (open' : Option OwnTransaction) → IsAt store session s hands open' → Takes store session s u later open' e
-    commit_takes session open' at' =
+    pub marks_take : (session : ℕ) (open' : Option OwnTransaction) → IsAt store session s hands open' → Takes store session s u later open' e
+    marks_take session open' at' =
         taken_event store s u hands later e rest.pass (rest.same.0 ∙ shards.same.0, rest.same.1 ∙ shards.same.1)
         (rest.sees s.me.0 (shards.sees s.me.0 (sees_same (store_meaning sh) s.me.0)))
-        session open' at'.within commit_covers commit_only
+        session open' at'.within marks_cover marks_only
         (rest.took s.me.0 (shards.took s.me.0 (took_none (first_of hands) s.me.0)))

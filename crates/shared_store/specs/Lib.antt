@@ -9,12 +9,15 @@ pub mod Making
 pub mod Meeting
 pub mod Observing
 pub mod Pruning
+pub mod Ranging
 pub mod Reading
 pub mod Reads
 pub mod Scanning
+pub mod Sorting
 pub mod Store
 pub mod Sweeping
 pub mod Taking
 pub mod Told
 pub mod Writing
 pub mod Open
+pub mod Totalling

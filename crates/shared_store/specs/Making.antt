@@ -1,7 +1,7 @@
 -- What making an event asks of a session's pass, and what it tells: its parts are taken, the event
 -- is made on them, and they are given back.
-use Rattle.std.specs.Prelude.{◌≡◌, ⊤, ℕ, ◌+◌, ◌<◌, ◌≤◌, ◌^◌, [], ◌∷◌, Option, None, MatchBool, true}
-use Rattle.std.specs.Prelude.{length}
+use Rattle.std.specs.Prelude.{◌≡◌, ⊤, ℕ, ◌+◌, ◌<◌, ◌≤◌, ◌^◌, List, [], ◌∷◌, ◌++◌, Option, None}
+use Rattle.std.specs.Prelude.{MatchBool, true, length}
 use Rattle.engine_core.specs.Costs.{cost_of}
 use Rattle.block_spec.specs.Bodies.{is_imaged}
 use Rattle.event_spec.specs.declared.event.Event.TheVariants as event
@@ -18,6 +18,7 @@ use Rattle.hall_rule.specs.Hands.{Agrees, Covers, SameRoom}
 use Rattle.hall_rule.specs.declared.view.View.{View}
 use Rattle.hall_steps.specs.Hall.{SameClaim, first_of, thawed_by}
 use Rattle.run_spec.specs.Calls.{is_memory}
+use Rattle.run_spec.specs.Occurrences.{Logged}
 use Rattle.run_spec.specs.Opened.{own_behind}
 use Rattle.store_laws.specs.Laws.{IsOfSession, SeesOn}
 use Rattle.store_laws.specs.Logs.{log_of, store_meaning}
@@ -131,11 +132,16 @@ ThawsAnyHeld store old hands new later table block told = (session : ℕ)
     (own : Option OwnTransaction) → IsWithin store session old hands own
     → MakesHeld store session old new hands later own (event.Thaw table block) told
 
--- Rows are read as the event may at parts of which it is the reply.
-abbrev pub ReadsFew : Shape → CoreEvent → CoreReply → ℕ → ℕ → Type 0
-ReadsFew shape event told old new = (parts : Parts)
-    × MatchBool (is_memory told) ⊤ (told ≡ reply_to shape parts event)
-    × (new ≤ old + cost_of shape event parts)
+-- No more rows are looked at than the event may at the parts that the log before it leaves, of which
+-- it is the reply. The log ends with it.
+pub record ReadsFew
+    (shape : Shape) (view : View CoreEvent) (event : CoreEvent) (told : CoreReply) (old new : ℕ)
+    : Type 0 where
+  pub before : List Logged
+  pub last : Logged
+  pub log : log_of view.log ≡ before ++ last ∷ []
+  pub tells : MatchBool (is_memory told) ⊤ (told ≡ reply_to shape (parts_after shape before) event)
+  pub few : new ≤ old + cost_of shape event (parts_after shape before)
 
 -- ---- giving back
 

@@ -4,10 +4,12 @@ use Rattle.std.specs.Prelude.{◌≡◌, ℕ, ℤ, true, List, [], Option, None,
 use Rattle.std.specs.Prelude.{is_some, length}
 use Rattle.std.specs.BTreeMap.{insert_entry}
 use Rattle.block_spec.specs.Slots.{Row}
-use Rattle.isolation_spec.specs.Contents.{History, WriteSet, at_place, contents_of, place_at}
-use Rattle.isolation_spec.specs.Contents.{place_cmp}
+use Rattle.isolation_spec.specs.Contents.{History, WriteSet, at_place, contents_between}
+use Rattle.isolation_spec.specs.Contents.{contents_of, numbers_between, place_at, place_cmp}
 use Rattle.isolation_spec.specs.declared.place.Place.{Place}
 use Rattle.isolation_spec.specs.Machine.{IsolationMachine}
+use Rattle.lane_filter.specs.Totals.{IsTotalOf}
+use Rattle.lane_filter.specs.declared.total.Total.{Total}
 use Rattle.store_laws.specs.Machines.{AddsCommit, HasMore, HasOpenIn, commits_in, machine_after}
 use Rattle.store_laws.specs.Machines.{rows_seen, stale_since}
 use Rattle.shared_store.specs.Store.{StoreView, own_of, reads_of, seen, shape_in}
@@ -87,6 +89,36 @@ abbrev pub FindsRows
     : {E : Type 0} → StoreView → Session → Session → ℕ → Result (List Row) E → Type 0
 FindsRows store old new table found = (commits : History) (own : WriteSet)
     → IsOpen store old commits own → FindsAll store new commits own table found
+
+-- The rows of a table's keys between two, both counted, were found, as the transaction sees them, in
+-- the order of their keys, and what is open stays so.
+pub record FindsRange
+    {E : Type 0} (store : StoreView) (new : Session) (commits : History) (own : WriteSet)
+    (table : ℕ) (low high : ℤ) (found : Result (List Row) E)
+    : Type 0 where
+  pub is_open : IsOpen store new commits own
+  pub rows : IfOk found (λ rows. rows ≡ contents_between table low high (rows_seen commits own))
+
+abbrev pub FindsBetween
+    : {E : Type 0} → StoreView → Session → Session → ℕ → ℤ → ℤ → Result (List Row) E → Type 0
+FindsBetween store old new table low high found = (commits : History) (own : WriteSet)
+    → IsOpen store old commits own → FindsRange store new commits own table low high found
+
+-- The numbers of a column that lie between two, both counted, in the rows of a table as the
+-- transaction sees them, were counted and summed, and what is open stays so.
+pub record FindsSum
+    {E : Type 0} (store : StoreView) (new : Session) (commits : History) (own : WriteSet)
+    (table column : ℕ) (low high : ℤ) (found : Result Total E)
+    : Type 0 where
+  pub is_open : IsOpen store new commits own
+  pub total : IfOk found (IsTotalOf
+      (numbers_between column low high (contents_of table (rows_seen commits own))))
+
+abbrev pub FindsTotal
+    : {E : Type 0} → StoreView → Session → Session → ℕ → ℕ → ℤ → ℤ → Result Total E → Type 0
+FindsTotal store old new table column low high found = (commits : History) (own : WriteSet)
+    → IsOpen store old commits own
+    → FindsSum store new commits own table column low high found
 
 -- A write that was accepted is the transaction's own from then on; a refused one changes nothing.
 abbrev pub WritesRow

@@ -1,13 +1,13 @@
--- What a scan's reads tell, block after block, the rows by their places, and the steps.
-use Rattle.std.specs.Prelude.{◌≡◌, ⊤, ℕ, ◌+◌, ◌*◌, ◌≤◌, false, not, List, [], ◌∷◌, count_by}
-use Rattle.std.specs.Prelude.{fold, flat_map, length, map, OnOk, Result}
-use Rattle.std.specs.BTreeMap.{insert_entry}
+-- What a scan's reads tell, block after block, and the steps.
+use Rattle.std.specs.Prelude.{◌≡◌, ⊤, ℕ, ◌+◌, ◌*◌, ◌≤◌, false, not, List, [], ◌∷◌, ◌++◌, count_by}
+use Rattle.std.specs.Prelude.{All, flat_map, length, map, OnOk, Result}
 use Rattle.block_spec.specs.Slots.{Row}
+use Rattle.cell_model.specs.Rows.{Fits}
 use Rattle.event_spec.specs.declared.event.Event.TheVariants as event
 use Rattle.event_spec.specs.declared.own.OwnTransaction.{OwnTransaction}
 use Rattle.event_spec.specs.Parts.{Shape, below, slots_of}
+use Rattle.event_spec.specs.Replay.{columns_in}
 use Rattle.event_spec.specs.Replies.{CoreReply}
-use Rattle.isolation_spec.specs.Contents.{State, place_cmp, place_of}
 use Rattle.run_spec.specs.Asked.{at_blocks}
 use Rattle.run_spec.specs.Calls.{is_final, is_memory, is_refused}
 use Rattle.run_spec.specs.Occurrences.{Occurrence, events_in, replies_in}
@@ -18,11 +18,6 @@ use Rattle.workload_spec.specs.declared.reply.Said.{Said}
 use Rattle.shared_store.specs.Store.{Answers, IsFree, StoreView, shape_in}
 use Rattle.shared_store.specs.declared.session.Session.{Session}
 
--- rows of a table, each laid in the place of its key
-abbrev pub laid : ℕ → State → List Row → State
-laid table state rows = fold (λ state row. insert_entry place_cmp state (place_of table row) row)
-    state rows
-
 -- How many steps the reads of a scan may take that were told this: of a block that was not frozen
 -- each slot is looked at once, and of any block each row that was told is made once.
 abbrev pub scan_cost : Shape → ℕ → List CoreReply → ℕ
@@ -30,16 +25,16 @@ scan_cost shape table replies =
     slots_of shape table * count_by (λ told. not (is_shared told)) replies
     + length (flat_map rows_told replies)
 
--- A block was read, and with Ok its rows were laid. Nothing is lent behind it.
+-- A block was read, and with Ok its rows stand behind those before. Nothing is lent behind it.
 pub record ReadsInto
     {T E : Type 0} (store : StoreView) (old new : Session) (own : OwnTransaction) (table at : ℕ)
-    (before now : State) (spent steps : ℕ) (result : Result T E)
+    (before now : List Row) (spent steps : ℕ) (result : Result T E)
     : Type 0 where
   pub told : CoreReply
   pub reads : ReadsBlock store old new own table at told
   pub free : IsFree new
   pub granted : OnOk result (is_memory told ≡ false)
-  pub laid : OnOk result (now ≡ laid table before (rows_told told))
+  pub rows : OnOk result (now ≡ before ++ rows_told told)
   pub few : steps ≤ spent + scan_cost (shape_in store) table (told ∷ [])
   pub unlooked : reads.made ≡ [] → steps ≤ spent
 
@@ -49,15 +44,17 @@ ArePlain [] = ⊤
 ArePlain (occurrence ∷ rest) =
     (is_refused occurrence ≡ false) × (is_final occurrence.event ≡ false) × ArePlain rest
 
--- So many blocks of the table were read, and their rows were laid.
+-- So many blocks of the table were read, and told these rows.
 pub record Scans
-    (store : StoreView) (old new : Session) (own : OwnTransaction) (table count : ℕ) (state : State)
+    (store : StoreView) (old new : Session) (own : OwnTransaction) (table count : ℕ)
+    (read : List Row)
     : Type 0 where
   pub made : List Occurrence
   pub went : Went store old new (at_blocks (shape_in store) table (event.Read own table)) made
   pub events : events_in made ≡ map (event.Read own table) (below count)
   pub plain : ArePlain made
-  pub rows : state ≡ laid table [] (flat_map rows_told (replies_in made))
+  pub rows : read ≡ flat_map rows_told (replies_in made)
+  pub fits : All (Fits (columns_in (shape_in store) table)) read
 
 -- What the session's reads were told bounds the steps of a scan that told this line.
 pub record ReadsOnce

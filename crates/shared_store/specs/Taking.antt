@@ -1,7 +1,8 @@
--- Taking the parts of a commit, which are marked before they are taken.
-use Rattle.std.specs.Prelude.{◌≡◌, ℕ, ◌<◌, ◌≤◌, Bool, true, false, ◌||◌, List, Option, Some}
+-- Taking the parts of a commit or a range, which are marked before they are taken.
+use Rattle.std.specs.Prelude.{◌≡◌, ⊤, ℕ, ◌<◌, ◌≤◌, Bool, true, false, ◌||◌, List, Option, Some}
 use Rattle.std.specs.Prelude.{length, slice_get, unwrap_or, slice_set}
 use Rattle.std.specs.List.{list_any}
+use Rattle.event_spec.specs.declared.event.Event.TheVariants as event
 use Rattle.event_spec.specs.Effects.{CoreEvent}
 use Rattle.event_spec.specs.Parts.{CorePart, Name, Shape, names, same_name}
 use Rattle.event_spec.specs.Touched.{passes_test, touching}
@@ -10,6 +11,26 @@ use Rattle.hall_rule.specs.declared.view.View.{View}
 use Rattle.hall_steps.specs.Hall.{IsPass, IsSameSeat, SeesMore, TookParts, first_of}
 use Rattle.store_laws.specs.Logs.{store_meaning}
 use Rattle.shared_store.specs.Store.{HandsView, SeatView, StoreView, shape_in}
+
+-- The parts of a commit and of a range are marked, since there may be many.
+abbrev pub IsMarked : CoreEvent → Type 0
+IsMarked (event.Begin session) = ⊥
+IsMarked (event.Get own table key) = ⊥
+IsMarked (event.Insert own table row) = ⊥
+IsMarked (event.Update own table row) = ⊥
+IsMarked (event.Delete own table key) = ⊥
+IsMarked (event.Read own table block) = ⊥
+IsMarked (event.Range own table low high) = ⊤
+IsMarked (event.Commit own reads) = ⊤
+IsMarked (event.Abort own) = ⊥
+IsMarked event.Oldest = ⊥
+IsMarked (event.Observe table block) = ⊥
+IsMarked (event.Prune table block oldest) = ⊥
+IsMarked (event.Look table block) = ⊥
+IsMarked (event.Move table moves) = ⊥
+IsMarked (event.Seal table block) = ⊥
+IsMarked (event.Image table block image) = ⊥
+IsMarked (event.Thaw table block) = ⊥
 
 -- whether the part of a number has one of these names
 abbrev pub has_one : Shape → List Name → ℕ → Bool

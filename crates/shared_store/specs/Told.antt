@@ -5,6 +5,7 @@ use Rattle.block_spec.specs.declared.phase.SealFault.{SealFault}
 use Rattle.block_spec.specs.Slots.{Row}
 use Rattle.event_spec.specs.declared.reply.Reply.TheVariants as reply
 use Rattle.event_spec.specs.Replies.{CoreReply}
+use Rattle.lane_filter.specs.declared.total.Total.{Total}
 use Rattle.run_spec.specs.Told.{cause_told, fault_told, row_told, stale_of}
 use Rattle.workload_spec.specs.declared.reply.Said.{Said}
 use Rattle.workload_spec.specs.declared.reply.Said.TheVariants as said
@@ -33,9 +34,17 @@ found_replied (Err memory) = reply.Memory
 abbrev pub IsFoundReply : CoreReply → Type 0
 IsFoundReply told = (told ≡ reply.Memory) ⊎ ((row : Option Row) × (told ≡ reply.Found row))
 
+-- A range's event replies the rows that it found, or that there was no memory.
+abbrev pub IsRowsReply : CoreReply → Type 0
+IsRowsReply told = (told ≡ reply.Memory) ⊎ ((rows : List Row) × (told ≡ reply.Rows rows))
+
 abbrev pub scanned_told : {E : Type 0} → Result (List Row) E → Said
 scanned_told (Ok rows) = said.Scanned rows
 scanned_told (Err memory) = said.Memory
+
+abbrev pub totalled_told : {E : Type 0} → Result Total E → Said
+totalled_told (Ok total) = said.Totalled total.count total.sum
+totalled_told (Err memory) = said.Memory
 
 abbrev pub store_fault_told : ℕ → StoreFault → Said
 store_fault_told table (fault.Write refused) = fault_told table refused

@@ -44,7 +44,8 @@ impl Store {
         requires { MayMakeHeld self.now pass.old.seat pass.old.hands event }
         ensures made { MakesAnyHeld self.now
             pass.old.seat pass.old.hands pass.new.seat pass.new.hands event result }
-        ensures steps { ReadsFew (shape_in self.now) event result steps.old steps.new }
+        ensures steps { ReadsFew (shape_in self.now) pass.new.seat.me.0 event result
+            steps.old steps.new }
     {
         self.hall.event(pass, event, steps)
     }
@@ -116,7 +117,8 @@ impl Store {
         requires { MayMake self.now pass.old.seat pass.old.hands event }
         ensures made { MakesAny self.now
             pass.old.seat pass.old.hands pass.new.seat pass.new.hands event result }
-        ensures steps { ReadsFew (shape_in self.now) event result steps.old steps.new }
+        ensures steps { ReadsFew (shape_in self.now) pass.new.seat.me.0 event result
+            steps.old steps.new }
     {
         let _ = &self.hall;
         self.take_for(rt, pass, &event);

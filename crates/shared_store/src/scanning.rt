@@ -1,17 +1,14 @@
 //! Scanning a table.
 ghost use Rattle.std.specs.Prelude.{◌≡◌, ◌+◌, ◌<◌, ◌≤◌, ℕ, None, Some, true, is_some, length};
-ghost use Rattle.std.specs.Prelude.{All, IfOk, IsSome, OnOk, flat_map, option_to_list};
+ghost use Rattle.std.specs.Prelude.{IfOk, IsSome, flat_map, option_to_list};
 ghost use Rattle.std.specs.Prelude.{slice_index_or, take};
-ghost use Rattle.std.specs.BTreeMap.{insert_entry};
-ghost use Rattle.cell_model.specs.Rows.{Fits};
 ghost use Rattle.core_parts.specs.Fronts.{rows_of_form};
 ghost use Rattle.event_spec.specs.Lawful.{HasBlock};
 ghost use Rattle.event_spec.specs.declared.own.OwnTransaction.{OwnTransaction as Own};
-ghost use Rattle.isolation_spec.specs.Contents.{contents_of, place_cmp};
 ghost use Rattle.workload_spec.specs.declared.command.Command.TheVariants as command;
 ghost use Rattle.shared_store.specs.Open.{FindsRows};
 ghost use Rattle.shared_store.specs.Reading.{GivesBack, HoldsSeen, rows_in};
-ghost use Rattle.shared_store.specs.Scanning.{ReadsInto, ReadsOnce, laid};
+ghost use Rattle.shared_store.specs.Scanning.{ReadsInto, ReadsOnce};
 ghost use Rattle.shared_store.specs.Store.{
   Answers,
   HasRoomFor,
@@ -26,15 +23,13 @@ ghost use Rattle.shared_store.specs.Told.{scanned_told};
 
 use crate::reading::SeenBlock;
 use crate::session::Session;
+use crate::sorting::rows_in_order;
 use crate::store::Store;
-use crate::writing::place_of;
 use block_columns::Columns;
-use cell_model::{Row, Rows, Schema};
+use cell_model::{Row, Rows};
 use core_parts::ReadForm;
 use hall_rule::Steps;
-use isolation_spec::Place;
 use std::alloc::{AllocError, Global};
-use std::collections::BTreeMap;
 use std::marker::Brand;
 use std::sync::Wait;
 use std::sync::ledger::{Blank, Ledger};
@@ -62,7 +57,7 @@ fn rows_of_columns<L: Ledger>(
 }
 
 /// The rows that were read of a block that is not frozen.
-fn rows_of_form<L: Ledger>(
+pub(crate) fn rows_of_form<L: Ledger>(
     alloc: Global,
     form: ReadForm,
     steps: &mut Steps<L>,
@@ -74,51 +69,6 @@ fn rows_of_form<L: Ledger>(
         ReadForm::Listed(rows) => Ok(rows.into_vec()),
         ReadForm::Columns(front) => rows_of_columns(alloc, front.columns(), front.rows(), steps),
     }
-}
-
-/// Lays a row in its place.
-fn lay_row(by_place: &mut BTreeMap<Place, Row>, place: Place, row: Row) -> Result<(), AllocError>
-    ensures { OnOk result
-        (by_place.new.entries ≡ insert_entry place_cmp by_place.old.entries place row) }
-{
-    match by_place.insert(place, row) {
-        Ok(_) => Ok(()),
-        Err(_) => Err(AllocError),
-    }
-}
-
-/// Lays rows of a table in their places.
-fn lay_rows(
-    schema: &Schema,
-    table: u32,
-    rows: Vec<Row>,
-    by_place: &mut BTreeMap<Place, Row>,
-) -> Result<(), AllocError>
-    requires { All (Fits schema.now) rows.items }
-    ensures { OnOk result (by_place.new.entries ≡ laid table by_place.old.entries rows.items) }
-{
-    for row in rows {
-        let _columns = schema.columns();
-        lay_row(by_place, place_of(table, &row), row)?;
-    }
-    Ok(())
-}
-
-/// The rows of a table, in the order of their places.
-fn rows_in_order(
-    alloc: Global,
-    table: u32,
-    by_place: BTreeMap<Place, Row>,
-) -> Result<Rows, AllocError>
-    ensures { IfOk result (λ rows. rows ≡ contents_of table by_place.entries) }
-{
-    let mut rows = Vec::new(alloc);
-    for (place, row) in by_place {
-        if place.table == table {
-            rows.push(row)?;
-        }
-    }
-    Ok(Rows::from(rows))
 }
 
 impl Store {
@@ -147,14 +97,14 @@ impl Store {
         }
     }
 
-    /// Reads a block, and lays its rows in their places.
+    /// Reads a block, and adds its rows to those that were read.
     fn read_into<R: Wait, L: Ledger>(
         &self,
         rt: &R,
         session: &mut Session,
         table: u32,
         block: u32,
-        by_place: &mut BTreeMap<Place, Row>,
+        rows: &mut Vec<Row>,
         steps: &mut Steps<L>,
     ) -> Result<(), AllocError>
         requires session { IsSession self.now session.old }
@@ -163,12 +113,12 @@ impl Store {
         requires busy { is_some (own_of session.old) ≡ true }
         requires block { HasBlock (shape_in self.now) table block }
         ensures { (own : Own) → own_of session.old ≡ Some own → ReadsInto self.now
-            session.old session.new own table block by_place.old.entries by_place.new.entries
+            session.old session.new own table block rows.old.items rows.new.items
             steps.old steps.new result }
     {
         let seen = self.see_block(rt, session, table, block, steps)?;
-        let rows = self.rows_of_seen(session, seen, steps)?;
-        lay_rows(self.hall.shape().schema(table), table, rows, by_place)
+        let mut more = self.rows_of_seen(session, seen, steps)?;
+        rows.append(&mut more)
     }
 
     /// All rows of a table that the session's transaction sees, in the order of their keys. Each
@@ -200,11 +150,11 @@ impl Store {
             session.old session.new table (scanned_told result) steps.old steps.new }
     {
         let shape = self.hall.shape();
-        let mut by_place = BTreeMap::new(shape.alloc());
+        let mut read = Vec::new(shape.alloc());
         for block in 0..shape.blocks(table) {
-            self.read_into(rt, session, table, block, &mut by_place, steps)?;
+            self.read_into(rt, session, table, block, &mut read, steps)?;
         }
-        let rows = rows_in_order(shape.alloc(), table, by_place)?;
+        let rows = rows_in_order(shape.schema(table), read)?;
         session.reads.mark(table);
         Ok(rows)
     }

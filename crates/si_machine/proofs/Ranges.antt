@@ -91,8 +91,8 @@ apart-by table low high q Less is apart = refl
 apart-by table low high q Equal is apart = absurd (apart is)
 apart-by table low high q Greater is apart = refl
 
--- A place is between two of a table exactly where it is of the table, with a key between theirs.
-in-range-by : (table : ℕ) (low high : ℤ) (q : Place) (b : Bool) → (q.table == table) ≡ b
+-- a place is between two of a table exactly where it is of the table, with a key between theirs
+pub in-range-by : (table : ℕ) (low high : ℤ) (q : Place) (b : Bool) → (q.table == table) ≡ b
     → (is_le (place_cmp (place_at table low) q) && not (is_lt (place_cmp (place_at table high) q))) ≡ (b && is_between low high q.key)
 in-range-by table low high q true is =
     let same : q.table ≡ table = eqb-true q.table table is in

@@ -41,11 +41,11 @@ summed-one count index sum numbers number small h =
     }
 
 -- What lies between two numbers of at most 64 bits has at most 64 bits.
-between-small : (low high number : ℤ) → is_number low ≡ true → is_number high ≡ true → is_between low high number ≡ true → is_number number ≡ true
+pub between-small : (low high number : ℤ) → is_number low ≡ true → is_number high ≡ true → is_between low high number ≡ true → is_number number ≡ true
 between-small low high number low_small high_small h = grind (arith, ints, low_small, high_small, h)
 
 -- A number that is found is one between the two.
-found-between : (low high number : ℤ) (o : Option Cell) → option_and_then (number_between low high) o ≡ Some number → is_between low high number ≡ true
+pub found-between : (low high number : ℤ) (o : Option Cell) → option_and_then (number_between low high) o ≡ Some number → is_between low high number ≡ true
 found-between low high number None is = absurd (let never : ⊥ = cc in never)
 found-between low high number (Some (Num found)) is = by (is_between low high found) refl is
   where

@@ -9,3 +9,4 @@ mod totals;
 mod writers;
 
 pub use machine::Machine;
+pub use totals::number_between;

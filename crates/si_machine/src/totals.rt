@@ -24,8 +24,8 @@ pub(crate) fn told(rows: &[Row], column: u32, low: i128, high: i128) -> Answer
     Answer::Totalled { count, sum }
 }
 
-/// The number in a row's column, where it lies between two.
-fn number_between(row: &Row, column: u32, low: i128, high: i128) -> Option<i128>
+/// The number in a row's column, where it lies between two, both counted.
+pub fn number_between(row: &Row, column: u32, low: i128, high: i128) -> Option<i128>
     ensures { result ≡ option_and_then (number_between low high) (slice_get row.now column) }
 {
     match row.get(column as usize) {

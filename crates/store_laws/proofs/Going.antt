@@ -317,6 +317,7 @@ module _ (sh : Shape) (s : Parts) (holds : CoreHolds sh s) where
         changes (event.Delete me t key) me t key (λ old. change.Gone) o lawful.1.1 same owns (core_kept sh (event.Delete me t key) s holds lawful),
       ))
   own_goes (event.Read me t b) q own lawful is has = kept_open q own has
+  own_goes (event.Range me t low high) q own lawful is has = kept_open q own has
   own_goes (event.Commit me reads) q own lawful is has = commits me reads q own lawful (some_is me.session q is) has
   own_goes (event.Abort me) q own lawful is has =
       let same = some_is me.session q is in

@@ -54,6 +54,7 @@ images_are_read shape parts (event.Insert own table row) e = absurd (no_write _ 
 images_are_read shape parts (event.Update own table row) e = absurd (no_write _ e)
 images_are_read shape parts (event.Delete own table key) e = absurd (no_write _ e)
 images_are_read shape parts (event.Read own table block) e = record { leaves = all_stay (names shape) parts; keeps = λ own told. refl }
+images_are_read shape parts (event.Range own table low high) e = absurd (true_false (sym e))
 images_are_read shape parts (event.Commit own reads) e = absurd (no_commit shape parts own (stale_in shape parts own reads) e)
 images_are_read shape parts (event.Abort own) e = absurd (true_false (sym e))
 images_are_read shape parts event.Oldest e = absurd (true_false (sym e))
@@ -100,6 +101,7 @@ reads_alone shape parts (event.Insert own table row) other e = no_write _ e
 reads_alone shape parts (event.Update own table row) other e = no_write _ e
 reads_alone shape parts (event.Delete own table key) other e = no_write _ e
 reads_alone shape parts (event.Read own table block) other e = true_false other
+reads_alone shape parts (event.Range own table low high) other e = true_false (sym e)
 reads_alone shape parts (event.Commit own reads) other e = no_commit shape parts own (stale_in shape parts own reads) e
 reads_alone shape parts (event.Abort own) other e = true_false (sym e)
 reads_alone shape parts event.Oldest other e = true_false (sym e)

@@ -14,7 +14,11 @@ pub mod Machines
 pub mod Stepping
 pub mod Maps
 pub mod Scans
+pub mod Permuted
+pub mod Sorting
+pub mod Totals
 pub mod Sights
 pub mod Looks
+pub mod Ranges
 pub mod Scanning
 pub mod Lent

@@ -34,10 +34,11 @@ lawful_parts sh (made ∷ xs) ys s lawful =
     let rest = lawful_parts sh xs ys (after sh s made) lawful.2 in
     ((lawful.0, lawful.1, rest.0), rest.1)
 
--- A get and a read leave the parts.
+-- A get, a read and a range leave the parts.
 look_leaves : (sh : Shape) (s : Parts) (e : CoreEvent) → is_look e ≡ true → effect sh s e ≡ s
 look_leaves sh s (event.Get own t key) e = all_stay (names sh) s
 look_leaves sh s (event.Read own t b) e = all_stay (names sh) s
+look_leaves sh s (event.Range own t low high) e = all_stay (names sh) s
 look_leaves sh s (event.Begin q) e = absurd (true_false (sym e))
 look_leaves sh s (event.Insert own t row) e = absurd (true_false (sym e))
 look_leaves sh s (event.Update own t row) e = absurd (true_false (sym e))

@@ -1,5 +1,5 @@
 -- Maps in the order of their places: what one table has of them is told by look-ups.
-use Rattle.std.proofs.Common.{◌≡◌, ◌⊎◌, ℕ, ◌+◌, ℤ, Bool, true, false, cond, ◌==◌, List, [], ◌∷◌, Option, None, Some, Ordering, Less, Equal, Greater, fold, length, nat_lt, int_cmp, int_eq, refl, sym, ap, ◌∙◌, arith}
+use Rattle.std.proofs.Common.{◌≡◌, ℕ, ◌+◌, ℤ, Bool, true, false, cond, ◌==◌, List, [], ◌∷◌, None, Some, Ordering, Less, Equal, Greater, length, nat_lt, int_cmp, int_eq, refl, sym, ap, ◌∙◌, arith}
 use mathlib.Core.Logic.{inl, inr}
 use Rattle.std.specs.BTreeMap.{insert_entry}
 use Rattle.std.specs.Cmp.{IsTotalOrder, alike_right, nat_cmp_is, tied_back, tied_itself}
@@ -11,8 +11,9 @@ use Rattle.std.proofs.lemmas.List.Elements.{All-cons, All-weaker}
 use Rattle.std.proofs.lemmas.List.Sorted.{length_permutation}
 use Rattle.block_spec.specs.Slots.{Row}
 use Rattle.isolation_spec.specs.Order.{InOrder}
+use Rattle.core_laws.proofs.Events.Puts.{put}
 use Rattle.event_spec.specs.Lawful.{Among}
-use Rattle.isolation_laws.proofs.Overlays.{at-insert, none_below, order-insert}
+use Rattle.isolation_laws.proofs.Overlays.{at-insert, none_below}
 use Rattle.isolation_laws.proofs.Entries.{IsPermutation-insert_entry}
 use Rattle.isolation_laws.proofs.Rows.{is_place-of, place_cmp-total}
 use Rattle.isolation_spec.specs.Contents.{State, at_place, contents_of, is_place, key_of, place_at, place_cmp, place_of}
@@ -176,44 +177,6 @@ module _ (table : ℕ) where
 
   -- ---- rows put at their places
 
-  -- a map with rows put into it, each at its key
-  abbrev pub put : State → List Row → State
-  put acc rows = fold (λ state row. insert_entry place_cmp state (place_of table row) row) acc rows
-
-  -- a map in order is in order after rows were put
-  pub order_put : (rows : List Row) (acc : State) → InOrder acc → InOrder (put acc rows)
-  order_put [] acc order = order
-  order_put (row ∷ rows) acc order = order_put rows (insert_entry place_cmp acc (place_of table row) row) (order-insert acc (place_of table row) row order)
-
-  -- what is found there, where all rows of the place are one
-  pub put_has : (q : Place) (target : Option Row) (rows : List Row) (acc : State)
-      → ((row : Row) → Among row rows → is_place q (place_of table row) ≡ true → target ≡ Some row)
-      → (at_place acc q ≡ target) ⊎ ((row : Row) × Among row rows × (is_place q (place_of table row) ≡ true))
-      → at_place (put acc rows) q ≡ target
-  put_has q target [] acc each (inl e) = e
-  put_has q target [] acc each (inr h) = absurd h.1
-  put_has q target (row ∷ rows) acc each from = go (is_place q (place_of table row)) refl from
-      (put_has q target rows (insert_entry place_cmp acc (place_of table row) row) (λ r a is. each r (inr a) is))
-    where
-      Rest : Type 0
-      Rest = (at_place (insert_entry place_cmp acc (place_of table row) row) q ≡ target) ⊎ ((r : Row) × Among r rows × (is_place q (place_of table r) ≡ true))
-          → at_place (put (insert_entry place_cmp acc (place_of table row) row) rows) q ≡ target
-
-      next : at_place (insert_entry place_cmp acc (place_of table row) row) q ≡ cond (is_place q (place_of table row)) (Some row) (at_place acc q)
-      next = at-insert acc (place_of table row) row q
-
-      at : (h : Row) → is_place q (place_of table h) ≡ true → is_place q (place_of table row) ≡ false → Among h (row ∷ rows) → Rest
-          → at_place (put (insert_entry place_cmp acc (place_of table row) row) rows) q ≡ target
-      at h there not_here (inl e) rest = absurd (true_false (sym there ∙ ap (λ r. is_place q (place_of table r)) e ∙ not_here))
-      at h there not_here (inr a) rest = rest (inr (h, a, there))
-
-      go : (b : Bool) → is_place q (place_of table row) ≡ b
-          → (at_place acc q ≡ target) ⊎ ((row' : Row) × Among row' (row ∷ rows) × (is_place q (place_of table row') ≡ true)) → Rest
-          → at_place (put (insert_entry place_cmp acc (place_of table row) row) rows) q ≡ target
-      go true is f rest = rest (inl (next ∙ ap (λ b. cond b (Some row) (at_place acc q)) is ∙ sym (each row (inl refl) is)))
-      go false is (inl e) rest = rest (inl (next ∙ ap (λ b. cond b (Some row) (at_place acc q)) is ∙ e))
-      go false is (inr h) rest = at h.0 h.2 is h.1 rest
-
   -- rows of different keys are as many there
   abbrev pub Fresh : List Row → Type 0
   Fresh [] = Unit {0}
@@ -230,7 +193,7 @@ module _ (table : ℕ) where
   -- rows with new keys add as many as they are
   pub put_count : (rows : List Row) (acc : State) → Fresh rows
       → ((row : Row) → Among row rows → at_place acc (place_of table row) ≡ None)
-      → length (contents_of table (put acc rows)) ≡ length (contents_of table acc) + length rows
+      → length (contents_of table (put table acc rows)) ≡ length (contents_of table acc) + length rows
   put_count [] acc fresh none = omega arith
   put_count (row ∷ rows) acc fresh none =
       let kept_rows : State → List Row = filter_map (λ (entry : Place × Row). cond (entry.0.table == table) (Some entry.1) None) in

@@ -576,6 +576,7 @@ module _ (sh : Shape) (s : Parts) (shape : IsShape sh) (ok : Sound sh s) (t : 鈩
   event_grows (event.Delete own u key) lawful = calmly (event.Delete own u key) (change_head own u (位 old. change.Gone) (change_judged sh s own u key))
       (位 b hb. change_stays sh s shape ok t b hb own u key (位 old. change.Gone) lawful.1.1)
   event_grows (event.Read own u c) lawful = calmly (event.Read own u c) refl (位 b hb. stays (body_at sh s t b))
+  event_grows (event.Range own u low high) lawful = calmly (event.Range own u low high) refl (位 b hb. stays (body_at sh s t b))
   event_grows (event.Commit own reads) lawful = calmly (event.Commit own reads) (commit_head own (stale_in sh s own reads)) (judged_stays own (stale_in sh s own reads))
   event_grows (event.Abort own) lawful = emptied (changes_of sh s (event.Abort own)) (位 block. is_empty (rolled_back_in own.session (body_at sh s t block))) true refl
       (位 b hb. abort_stays sh s shape ok t b hb own.session)

@@ -17,7 +17,9 @@ use Rattle.event_spec.specs.Parts.{Parts, Shape, below, blocks_of}
 use Rattle.event_spec.specs.Replay.{IsLawfulFrom, IsLawfulLog, after, opening}
 use Rattle.event_spec.specs.Replies.{reply_to, rows_read}
 use Rattle.event_spec.specs.Sound.{IsShape, Sound}
+use Rattle.core_laws.specs.Events.Named.{FollowsMachine}
 use Rattle.isolation_spec.specs.Contents.{History, WriteSet, contents_of}
+use Rattle.isolation_spec.specs.Machine.{Transaction, transaction_of}
 use Rattle.run_spec.specs.Calls.{is_memory, is_refused}
 use Rattle.run_spec.specs.Handed.{GoesOn, own_in}
 use Rattle.run_spec.specs.Occurrences.{Logged, Occurrence, events_in, occurrence_of, occurrences_from, replies_in, under}
@@ -25,7 +27,9 @@ use Rattle.run_spec.specs.Told.{in_key_order, rows_told}
 use Rattle.store_laws.specs.Logs.{made_in}
 use Rattle.store_laws.specs.Machines.{HasOpenIn, machine_after, rows_seen}
 use Rattle.store_laws.specs.Own.{StandsUnder, parts_after}
-use Rattle.store_laws.specs.Reads.{ReadsTellTheRows, is_look}
+use Rattle.store_laws.specs.Reads.{ReadsTellEachOnce, ReadsTellTheRows, TellEach, is_look}
+use Rattle.store_laws.specs.Scans.{HaveOwnKeys, IsTheScan, all_read}
+use Rattle.store_laws.proofs.Ranges.{opened_by}
 use Rattle.store_laws.proofs.Entries.{own_on}
 use Rattle.store_laws.proofs.Machines.{follows_whole, lawful_behind, lawful_front, under_rest}
 use Rattle.store_laws.proofs.Looks.{Still, made_still, read_told}
@@ -114,31 +118,58 @@ module _ (sh : Shape) (own : OwnTransaction) (t : ℕ) (shape : IsShape sh) wher
           let still = made_still sh own t shape s entry.made ok lawful.0 owns (apart is) in
           later bs still has e granted ∙ behind bs has still
 
-  -- reads of all blocks of a table, with nothing else of the session between them, tell the rows that
-  -- its transaction of the machine sees
-  rows_between : (earlier later : List Logged) (made : List Occurrence) (commits : History) (writes : WriteSet)
-      → IsLawfulLog sh (made_in later) → GoesOn earlier later → StandsUnder own.session later → OwnsAll sh own (parts_after sh earlier)
-      → own_in sh own.session later ≡ own_in sh own.session earlier ++ made
-      → events_in made ≡ map (event.Read own t) (below (blocks_of sh t)) → list_any is_refused made ≡ false
-      → HasOpenIn own.session (machine_after sh earlier) commits writes
-      → in_key_order t (flat_map rows_told (replies_in made)) ≡ contents_of t (rows_seen commits writes)
-  rows_between earlier later made commits writes lawful goes named owns grown events granted open' =
-      let whole = subst (λ l. IsLawfulLog sh (made_in l)) goes.1 lawful in
-      let front = follows_whole sh earlier shape (lawful_front sh earlier goes.0 (opening sh) whole) in
-      let start : Parts = parts_after sh earlier in
-      let is : under own.session (occurrences_from sh start goes.0) ≡ made =
-      append_cancel_left (own_in sh own.session earlier) (under own.session (occurrences_from sh start goes.0)) made
-      (sym (own_on sh own.session earlier goes.0) ∙ ap (own_in sh own.session) (sym goes.1) ∙ grown) in
-      let told = rows_along goes.0 start (below (blocks_of sh t)) front.0 (lawful_behind sh earlier goes.0 (opening sh) whole) owns
-      (under_rest sh own.session earlier goes.0 (subst (StandsUnder own.session) goes.1 named))
-      (λ b among. let less = member_below 0 (blocks_of sh t) b among in within sh t b (omega (arith, less)))
-      (ap events_in is ∙ events) (ap (list_any is_refused) is ∙ granted) in
-      let scan = reads_are_the_scan sh start own t (machine_after sh earlier) (record { session = own.session; snapshot = length commits; own = writes }) shape front.0 owns front.1 open'.opened in
-      ap (λ os. in_key_order t (flat_map rows_told (replies_in os))) (sym is)
-      ∙ ap (in_key_order t) told
-      ∙ scan.rows
-      ∙ ap (contents_of t) (rows_are own.session (machine_after sh earlier) (machine_after sh earlier) commits writes open')
+  -- Reads of all blocks of a table, with nothing else of the session between them.
+  module _ (earlier later : List Logged) (made : List Occurrence)
+      (lawful : IsLawfulLog sh (made_in later)) (goes : GoesOn earlier later) (named : StandsUnder own.session later) (owns : OwnsAll sh own (parts_after sh earlier))
+      (grown : own_in sh own.session later ≡ own_in sh own.session earlier ++ made)
+      (events : events_in made ≡ map (event.Read own t) (below (blocks_of sh t))) (granted : list_any is_refused made ≡ false) where
+    abbrev start : Parts
+    start = parts_after sh earlier
+
+    whole : IsLawfulLog sh (made_in (earlier ++ goes.0))
+    whole = subst (λ l. IsLawfulLog sh (made_in l)) goes.1 lawful
+
+    front : Sound sh start × FollowsMachine sh start (machine_after sh earlier)
+    front = follows_whole sh earlier shape (lawful_front sh earlier goes.0 (opening sh) whole)
+
+    -- they tell what the session read of all blocks before them
+    rows : flat_map rows_told (replies_in made) ≡ all_read sh start own t
+    rows = ap (λ os. flat_map rows_told (replies_in os)) (sym is) ∙ told
+      where
+        is : under own.session (occurrences_from sh start goes.0) ≡ made
+        is = append_cancel_left (own_in sh own.session earlier) (under own.session (occurrences_from sh start goes.0)) made
+            (sym (own_on sh own.session earlier goes.0) ∙ ap (own_in sh own.session) (sym goes.1) ∙ grown)
+
+        told : flat_map rows_told (replies_in (under own.session (occurrences_from sh start goes.0))) ≡ all_read sh start own t
+        told = rows_along goes.0 start (below (blocks_of sh t)) front.0 (lawful_behind sh earlier goes.0 (opening sh) whole) owns
+            (under_rest sh own.session earlier goes.0 (subst (StandsUnder own.session) goes.1 named))
+            (λ b among. let less = member_below 0 (blocks_of sh t) b among in within sh t b (omega (arith, less)))
+            (ap events_in is ∙ events) (ap (list_any is_refused) is ∙ granted)
+
+    -- which is each row that a transaction of the machine sees
+    scan : (open' : Transaction) → transaction_of own.session (machine_after sh earlier) ≡ Some open' → IsTheScan sh start own t (machine_after sh earlier) open'
+    scan open' is = reads_are_the_scan sh start own t (machine_after sh earlier) open' shape front.0 owns front.1 is
+
+    seen_rows_told : (commits : History) (writes : WriteSet) → HasOpenIn own.session (machine_after sh earlier) commits writes
+        → TellEach t (flat_map rows_told (replies_in made)) (contents_of t (rows_seen commits writes))
+    seen_rows_told commits writes open' =
+        let all = scan (record { session = own.session; snapshot = length commits; own = writes }) open'.opened in
+        let seen = rows_are own.session (machine_after sh earlier) (machine_after sh earlier) commits writes open' in
+        record {
+          ordered = ap (in_key_order t) rows ∙ all.rows ∙ ap (contents_of t) seen;
+          count = ap length rows ∙ all.count ∙ ap (λ state. length (contents_of t state)) seen;
+        }
+
+    own_keys : HaveOwnKeys t (flat_map rows_told (replies_in made))
+    own_keys =
+        let o = opened_by sh start own (machine_after sh earlier) front.0 front.1 owns in
+        let all = scan o.0 o.1 in
+        subst (HaveOwnKeys t) (sym rows) (all.count ∙ ap length (sym all.rows))
 
 pub reads_tell_the_rows : ReadsTellTheRows
 reads_tell_the_rows shape earlier later made own table commits writes is lawful goes named owns open' grown events granted =
-    rows_between shape own table is earlier later made commits writes lawful goes named owns grown events granted open'
+    seen_rows_told shape own table is earlier later made lawful goes named owns grown events granted commits writes open'
+
+pub reads_tell_each_once : ReadsTellEachOnce
+reads_tell_each_once shape earlier later made own table is lawful goes named owns grown events granted =
+    own_keys shape own table is earlier later made lawful goes named owns grown events granted

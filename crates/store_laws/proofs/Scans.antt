@@ -24,7 +24,8 @@ use Rattle.isolation_spec.specs.Machine.{IsolationMachine, Transaction, seen_row
 use Rattle.core_laws.proofs.Snapshots.BlockReads.{reads_hold_each_row}
 use Rattle.core_laws.specs.Snapshots.Laws.{ReadsEachOnce}
 use Rattle.store_laws.specs.Scans.{IsTheScan, ReadsAreTheScan, all_read}
-use Rattle.store_laws.proofs.Maps.{Fresh, order_put, put, put_count, put_has, same_contents}
+use Rattle.core_laws.proofs.Events.Puts.{order_put, put, put_has}
+use Rattle.store_laws.proofs.Maps.{Fresh, put_count, same_contents}
 
 -- Rows of different keys in two lists have different keys in both where none is common.
 fresh_append : (table : ℕ) (xs ys : List Row) → Fresh table xs → Fresh table ys

@@ -15,7 +15,8 @@ use Rattle.event_spec.specs.declared.reply.WriteFault.{WriteFault}
 use Rattle.event_spec.specs.Effects.{CoreEvent, after_change, after_insert, after_judged, after_move, at_both, change_judged, changes_of, closed, effect, held_pairs, insert_judged, is_some_write, numbered, stale_in}
 use Rattle.event_spec.specs.Judged.{differences}
 use Rattle.event_spec.specs.Parts.{Parts, Shape, nothing, body_at, desk_at, is_head}
-use Rattle.event_spec.specs.Replay.{IsLawfulFrom, Made, after, opening}
+use Rattle.event_spec.specs.Replay.{IsLawfulFrom, IsLawfulLog, Made, after, opening}
+use Rattle.event_spec.specs.Sound.{IsShape}
 use Rattle.core_laws.proofs.Frames.Reached.{core_kept, core_opens}
 use Rattle.core_laws.specs.Frames.Shards.{CoreHolds}
 use Rattle.isolation_spec.specs.Contents.{key_of, PlaceMap}
@@ -23,6 +24,7 @@ use Rattle.core_laws.proofs.Logs.Opening.{desk}
 use Rattle.run_spec.specs.Occurrences.{Logged}
 use Rattle.store_laws.specs.Laws.{StampsAreFew}
 use Rattle.store_laws.specs.Logs.{made_in}
+use Rattle.store_laws.specs.Own.{parts_after}
 use Rattle.txn_desk.specs.Desk.{DeskState}
 use Rattle.event_spec.specs.declared.own.OwnTransaction.{OwnTransaction}
 use Rattle.isolation_spec.specs.declared.read.Read.{Read}
@@ -77,6 +79,7 @@ module _ (sh : Shape) (s : Parts) where
   event_more (event.Update own u row) = same_more _ _ (change_desk own u (λ old. change.Patch (differences 0 old row)) (change_judged sh s own u (key_of row)) (desk_at sh s))
   event_more (event.Delete own u key) = same_more _ _ (change_desk own u (λ old. change.Gone) (change_judged sh s own u key) (desk_at sh s))
   event_more (event.Read own u c) = omega arith
+  event_more (event.Range own u low high) = omega arith
   event_more (event.Commit own reads) = judged_more own (stale_in sh s own reads) (desk_at sh s)
   event_more (event.Abort own) = omega arith
   event_more event.Oldest = omega arith
@@ -98,6 +101,18 @@ module _ (sh : Shape) (s : Parts) where
       go : (refused : Bool) → IsOneMore (desk_at sh s) (desk_at sh (cond refused s (effect sh s made.event)))
       go true = omega arith
       go false = subst (IsOneMore (desk_at sh s)) (sym now) (event_more made.event)
+
+-- A lawful log leaves a core that holds, where the core before it does.
+holds_from : (sh : Shape) (s : Parts) (log : List Made) → CoreHolds sh s → IsLawfulFrom sh s log → CoreHolds sh (fold (after sh) s log)
+holds_from sh s [] holds lawful = holds
+holds_from sh s (made ∷ log) holds lawful = holds_from sh (after sh s made) log (kept made.refused) lawful.2
+  where
+    kept : (refused : Bool) → CoreHolds sh (cond refused s (effect sh s made.event))
+    kept true = holds
+    kept false = core_kept sh made.event s holds lawful.0
+
+pub holds_after : (sh : Shape) (log : List Logged) → IsShape sh → IsLawfulLog sh (made_in log) → CoreHolds sh (parts_after sh log)
+holds_after sh log shape lawful = holds_from sh (opening sh) (made_in log) (core_opens sh shape) lawful
 
 -- From sound parts on, a lawful log takes at most as many stamps as it has events.
 stamps_from : (sh : Shape) (s : Parts) (log : List Made) → CoreHolds sh s → IsLawfulFrom sh s log

@@ -1,6 +1,6 @@
 -- Steps of the machine: what they leave of other sessions' transactions and of the commits, and what
 -- each command makes of its own session's.
-use Rattle.std.proofs.Common.{◌≡◌, ◌≢◌, ◌⊎◌, ℕ, ◌+◌, ◌≤◌, Bool, true, false, cond, List, [], ◌∷◌, ◌++◌, Option, None, Some, is_none, is_some, length, option_map, refl, sym, ap, subst, ◌∙◌, append-nil, append_assoc, arith}
+use Rattle.std.proofs.Common.{◌≡◌, ◌≢◌, ◌⊎◌, ℕ, ◌+◌, ◌≤◌, ℤ, Bool, true, false, cond, List, [], ◌∷◌, ◌++◌, Option, None, Some, is_none, is_some, length, option_map, refl, sym, ap, subst, ◌∙◌, append-nil, append_assoc, arith}
 use mathlib.Core.Logic.{inl, inr}
 use Rattle.std.specs.Prelude.{IsSomeAnd, option_and_then}
 use Rattle.std.specs.BTreeMap.{insert_entry}
@@ -15,7 +15,8 @@ use Rattle.event_spec.specs.declared.reply.WriteFault.{WriteFault}
 use Rattle.event_spec.specs.declared.reply.WriteFault.TheVariants as fault
 use Rattle.event_spec.specs.Effects.{CoreEvent}
 use Rattle.event_spec.specs.Lawful.{reads_handed, session_of}
-use Rattle.isolation_spec.specs.Contents.{History, WriteSet, at_place, laid_over, place_at, place_cmp, place_of, state_at}
+use Rattle.event_spec.specs.Replies.{CoreReply}
+use Rattle.isolation_spec.specs.Contents.{History, WriteSet, at_place, contents_between, laid_over, place_at, place_cmp, place_of, state_at}
 use Rattle.isolation_spec.specs.declared.command.Act.{Act}
 use Rattle.isolation_spec.specs.declared.command.Act.TheVariants as act
 use Rattle.isolation_spec.specs.declared.command.Answer.{Answer}
@@ -122,6 +123,7 @@ asked_by (event.Insert own table row) = inl refl
 asked_by (event.Update own table row) = inl refl
 asked_by (event.Delete own table key) = inl refl
 asked_by (event.Read own table block) = inr refl
+asked_by (event.Range own table low high) = inl refl
 asked_by (event.Commit own reads) = inl refl
 asked_by (event.Abort own) = inl refl
 asked_by event.Oldest = inl refl
@@ -133,13 +135,13 @@ asked_by (event.Seal table block) = inl refl
 asked_by (event.Image table block image) = inl refl
 asked_by (event.Thaw table block) = inl refl
 
--- what the machine is behind an event, by its command and by its outcome
-abbrev moved_by : IsolationMachine → Option ReadSet → Option Command → Option Outcome → IsolationMachine
-moved_by m reads command outcome = option_map_or (λ c. option_map_or (left_by m reads c) outcome m) command m
+-- what the machine is behind an event, by its command and by its reply
+abbrev moved_by : IsolationMachine → Option ReadSet → Option Command → CoreReply → IsolationMachine
+moved_by m reads command told = option_map_or (λ c. option_map_or (left_by m reads c) (outcome_of c.act told) m) command m
 
 -- an event that is no command leaves all
 pub quiet_leaves : (q : ℕ) (m : IsolationMachine) (o : Occurrence) → command_in o.event ≡ None → Leaves q m (moved_on m o)
-quiet_leaves q m o none' = subst (λ c. Leaves q m (moved_by m (reads_handed o.event) c (outcome_of o.reply))) (sym none') (left_alone q m)
+quiet_leaves q m o none' = subst (λ c. Leaves q m (moved_by m (reads_handed o.event) c o.reply)) (sym none') (left_alone q m)
 
 -- an event of another session leaves a session's transaction
 pub other_leaves : (q : ℕ) (m : IsolationMachine) (o : Occurrence) → session_of o.event ≢ Some q → Leaves q m (moved_on m o)
@@ -152,9 +154,9 @@ other_leaves q m o ne = go (asked_by o.event)
     outcome c apart (Some store.Full) = left_alone q m
     outcome c apart (Some store.Memory) = left_alone q m
 
-    command : (c : Option Command) → option_map (λ (c : Command). c.session) c ≡ session_of o.event → Leaves q m (moved_by m (reads_handed o.event) c (outcome_of o.reply))
+    command : (c : Option Command) → option_map (λ (c : Command). c.session) c ≡ session_of o.event → Leaves q m (moved_by m (reads_handed o.event) c o.reply)
     command None is = left_alone q m
-    command (Some c) is = outcome c (λ e. ne (sym is ∙ ap Some e)) (outcome_of o.reply)
+    command (Some c) is = outcome c (λ e. ne (sym is ∙ ap Some e)) (outcome_of c.act o.reply)
 
     go : (option_map (λ (c : Command). c.session) (command_in o.event) ≡ session_of o.event) ⊎ (command_in o.event ≡ None) → Leaves q m (moved_on m o)
     go (inl is) = command (command_in o.event) is
@@ -216,9 +218,9 @@ commits_stay m o = command (command_in o.event)
     outcome c (Some store.Full) = none_more
     outcome c (Some store.Memory) = none_more
 
-    command : (c : Option Command) → HasMore m.history (moved_by m (reads_handed o.event) c (outcome_of o.reply)).history
+    command : (c : Option Command) → HasMore m.history (moved_by m (reads_handed o.event) c o.reply).history
     command None = none_more
-    command (Some c) = outcome c (outcome_of o.reply)
+    command (Some c) = outcome c (outcome_of c.act o.reply)
 
 -- what the machine may become behind an event is what it becomes
 pub moved_is : (m next : IsolationMachine) (o : Occurrence) → IsStep (command_in o.event) (reads_handed o.event) m o.reply next → next ≡ moved_on m o
@@ -231,9 +233,9 @@ moved_is m next o h = command (command_in o.event) h
     outcome c (Some store.Full) h = h.2
     outcome c (Some store.Memory) h = h.2
 
-    command : (c : Option Command) → IsStep c (reads_handed o.event) m o.reply next → next ≡ moved_by m (reads_handed o.event) c (outcome_of o.reply)
+    command : (c : Option Command) → IsStep c (reads_handed o.event) m o.reply next → next ≡ moved_by m (reads_handed o.event) c o.reply
     command None h = h
-    command (Some c) h = outcome c (outcome_of o.reply) h
+    command (Some c) h = outcome c (outcome_of c.act o.reply) h
 
 -- ---- what a session's own command makes
 
@@ -309,6 +311,19 @@ module _ (q : ℕ) (m next : IsolationMachine) (commits : History) (own : WriteS
     where
       same_row : (a b : Option Row) → answer.Found b ≡ answer.Found a → a ≡ b
       same_row a b e = cc
+
+  -- a range has the rows that the transaction sees between its ends, and leaves all
+  pub ranged : (table : ℕ) (low high : ℤ) (rows : List Row) → step m (asked q (act.Range table low high)) ≡ (answer.Rows rows, next)
+      → (rows ≡ contents_between table low high (rows_seen commits own)) × (m ≡ next)
+  ranged table low high rows h =
+      let e = stepped (act.Range table low high) (answer.Rows rows) h in
+      let seen = contents_between table low high (seen_rows m opened) in (
+        same_rows rows seen (said_is (answer.Rows seen) (answer.Rows rows) m next e) ∙ ap (contents_between table low high) rows_are,
+        next_is (answer.Rows seen) (answer.Rows rows) m next e,
+      )
+    where
+      same_rows : (a b : List Row) → answer.Rows b ≡ answer.Rows a → a ≡ b
+      same_rows a b e = cc
 
   -- ---- writes
 

@@ -37,7 +37,7 @@ moved_on before occurrence =
     option_map_or
     (λ command. option_map_or
     (left_by before (reads_handed occurrence.event) command)
-    (outcome_of occurrence.reply)
+    (outcome_of command.act occurrence.reply)
     before)
     (command_in occurrence.event)
     before

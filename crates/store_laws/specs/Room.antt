@@ -40,6 +40,7 @@ inserted_by table (event.Insert own at row) told = if table == at then writes_to
 inserted_by table (event.Update own at row) told = 0
 inserted_by table (event.Delete own at key) told = 0
 inserted_by table (event.Read own at block) told = 0
+inserted_by table (event.Range own at low high) told = 0
 inserted_by table (event.Commit own reads) told = 0
 inserted_by table (event.Abort own) told = 0
 inserted_by table event.Oldest told = 0

@@ -17,6 +17,7 @@ reads_block (event.Insert own table row) = false
 reads_block (event.Update own table row) = false
 reads_block (event.Delete own table key) = false
 reads_block (event.Read own table block) = true
+reads_block (event.Range own table low high) = false
 reads_block (event.Commit own reads) = false
 reads_block (event.Abort own) = false
 reads_block event.Oldest = false

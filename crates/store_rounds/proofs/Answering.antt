@@ -88,6 +88,10 @@ table_there (t ∷ tables) (suc table) is = let low = table_there tables table i
 pub table_of_key : (tables : List TableDecl) (table : ℕ) (key : ℤ) → (is_table_place tables table && is_key_number key) ≡ true → table < length tables
 table_of_key tables table key is = table_there tables table (and_parts (is_table_place tables table) (is_key_number key) is).0
 
+-- so does a range
+pub table_of_range : (tables : List TableDecl) (table : ℕ) (low high : ℤ) → (is_table_place tables table && is_key_number low && is_key_number high) ≡ true → table < length tables
+table_of_range tables table low high is = table_of_key tables table low (and_parts (is_table_place tables table && is_key_number low) (is_key_number high) is).0
+
 -- a table that a command may name is one of the tables
 pub table_named : (tables : List TableDecl) (table : ℕ) → is_table_place tables table ≡ true → table < length tables
 table_named tables table is = table_there tables table is
@@ -123,7 +127,7 @@ events_few shape (Some t) kept session (command.Get table key) made few other = 
 events_few shape None kept session (command.Scan table) made few other = omega arith
 events_few shape (Some t) kept session (command.Scan table) made few other = let reads = reads_few shape table (event.Read t table) (few table) in omega (arith, reads)
 events_few shape None kept session (command.Range table low high) made few other = omega arith
-events_few shape (Some t) kept session (command.Range table low high) made few other = let reads = reads_few shape table (event.Read t table) (few table) in omega (arith, reads)
+events_few shape (Some t) kept session (command.Range table low high) made few other = omega arith
 events_few shape None kept session (command.Total table column low high) made few other = omega arith
 events_few shape (Some t) kept session (command.Total table column low high) made few other = let reads = reads_few shape table (event.Read t table) (few table) in omega (arith, reads)
 events_few shape None kept session (command.Insert table row) made few other = omega arith

@@ -382,9 +382,8 @@ module _ (script : Script) where
   each_served (line ∷ lines) all =
       let parts = and_parts (is_line script line) (list_all (is_line script) lines) all in
       All-cons (λ (line : Line). IsServed script.tables line.command) line lines
-      (let its = and_parts (is_within 1 script.sessions line.session && is_command script.tables line.command) (takes_command script.version line.command) parts.0 in
-      let both = and_parts (is_within 1 script.sessions line.session) (is_command script.tables line.command) its.0 in
-      record { names = both.1; version = script.version; taken = its.1 })
+      (and_parts (is_within 1 script.sessions line.session) (is_command script.tables line.command)
+      (and_parts (is_within 1 script.sessions line.session && is_command script.tables line.command) (takes_command script.version line.command) parts.0).0).1
       (each_served lines parts.1)
 
 module _ (script : Script) (store : StoreView) (row : List Session) (asked rest : List (List Line)) (lines : List Line)

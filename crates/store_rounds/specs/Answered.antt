@@ -13,16 +13,14 @@ use Rattle.shared_store.specs.declared.session.Session.{Session}
 use Rattle.store_export.specs.declared.exporting.ExportFault.{ExportFault}
 use Rattle.store_export.specs.declared.exporting.ExportFault.TheVariants as fault
 use Rattle.store_rounds.specs.Keeping.{Counts, most_upkeep}
-use Rattle.workload_spec.specs.Valid.{is_command, takes_command}
+use Rattle.workload_spec.specs.Valid.{is_command}
 use Rattle.workload_spec.specs.declared.command.Command.{Command}
 use Rattle.workload_spec.specs.declared.reply.Said.{Said}
 use Rattle.workload_spec.specs.declared.reply.Said.TheVariants as said
 
--- The command names tables, blocks and rows of these tables, and a version of the format takes it.
-pub record IsServed (tables : List TableDecl) (command : Command) : Type 0 where
-  pub names : is_command tables command ≡ true
-  pub version : ℕ
-  pub taken : takes_command version command ≡ true
+-- The command names tables, blocks, columns and rows of these tables.
+abbrev pub IsServed : List TableDecl → Command → Type 0
+IsServed tables command = is_command tables command ≡ true
 
 -- A command makes at most so many events: none makes more than a pruning.
 abbrev pub most_events : ℕ

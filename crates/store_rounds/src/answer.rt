@@ -13,7 +13,7 @@ ghost use Rattle.workload_spec.specs.Valid.{is_export};
 use crate::keeping::keep_up;
 use crate::sending::send;
 use crate::spent::Spent;
-use crate::told::{begun, committed, found, scanned, written};
+use crate::told::{begun, committed, found, scanned, totalled, written};
 use byte_ports::{Failed, Sink};
 use shared_store::{Session, Store};
 use std::sync::Wait;
@@ -79,6 +79,18 @@ fn answer<R: Wait + Threads + Sync>(
         Command::Begin { checked: true } => begun(store.begin_checked(rt, session)),
         Command::Get { table, key } => found(store.get(rt, session, table, key)),
         Command::Scan { table } => scanned(store.scan_uncounted(rt, session, table)),
+        Command::Range { table, low, high } => {
+            scanned(store.range_uncounted(rt, session, table, low, high))
+        }
+        Command::Total {
+            table,
+            column,
+            low,
+            high,
+        } => {
+            let (low, high) = (low.get(), high.get());
+            totalled(store.total_uncounted(rt, session, table, column, low, high))
+        }
         Command::Insert { table, row } => {
             let row = spent.renew(row);
             written(table, store.insert(rt, session, table, row))
@@ -98,7 +110,7 @@ fn answer<R: Wait + Threads + Sync>(
         | Command::Compact { .. }
         | Command::Seal { .. }
         | Command::Gather { .. } => keep_up(rt, store, session, command),
-        Command::Export { .. } | Command::Range { .. } | Command::Total { .. } => unreachable!(),
+        Command::Export { .. } => unreachable!(),
     }
 }
 

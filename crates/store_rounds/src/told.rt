@@ -2,12 +2,12 @@
 ghost use Rattle.std.specs.Prelude.{◌≡◌};
 ghost use Rattle.run_spec.specs.Told.{fault_told, stale_of};
 ghost use Rattle.shared_store.specs.Told.{begun_told, committed_told, found_told, scanned_told};
-ghost use Rattle.shared_store.specs.Told.{written_told};
+ghost use Rattle.shared_store.specs.Told.{totalled_told, written_told};
 
 use cell_model::{Row, Rows};
 use event_spec::WriteFault;
 use isolation_spec::Read;
-use shared_store::{Busy, Stale, StoreFault};
+use shared_store::{Busy, Stale, StoreFault, Total};
 use std::alloc::AllocError;
 use workload_spec::{Said, StaleRead};
 
@@ -62,6 +62,16 @@ pub(crate) fn scanned(answer: Result<Rows, AllocError>) -> Said
 {
     match answer {
         Ok(rows) => Said::Scanned(rows),
+        Err(AllocError) => Said::Memory,
+    }
+}
+
+/// The line of a total.
+pub(crate) fn totalled(answer: Result<Total, AllocError>) -> Said
+    ensures { result ≡ totalled_told answer }
+{
+    match answer {
+        Ok(Total { count, sum }) => Said::Totalled { count, sum },
         Err(AllocError) => Said::Memory,
     }
 }

@@ -109,14 +109,22 @@ first_commands = command.Begin false ∷ command.Begin true ∷ command.Range 0 
 abbrev pub is_valid_in : ℕ → Command → Bool
 is_valid_in version asked = is_valid (record (script_with version asked) { tables = table_a ∷ [] })
 
--- The second version takes a checked begin, and neither takes a range or a total.
+-- lines whose bounds are turned round, and one whose column has no numbers
+abbrev pub turned_lines : List (List ℕ)
+turned_lines = codes "1 range a 4 3" ∷ codes "1 total a key 9 -3" ∷ codes "1 total a v 0 1" ∷ []
+
+-- The second version takes a checked begin, a range and a total, also with bounds that are turned
+-- round, and the first none of them.
 abbrev pub TakenByVersion : Type 0
 TakenByVersion =
     (map (cause_of head) first_lines ≡ None ∷ replicate 3 (Some cause.Command))
     × (map (cause_of (codes "store 2" ∷ drop 1 head)) first_lines
-    ≡ replicate 2 None ++ replicate 2 (Some cause.Command))
+    ≡ replicate 4 None)
+    × (map (cause_of head) turned_lines ≡ replicate 3 (Some cause.Command))
+    × (map (cause_of (codes "store 2" ∷ drop 1 head)) turned_lines
+    ≡ None ∷ None ∷ Some cause.Column ∷ [])
     × (map (is_valid_in 1) first_commands ≡ true ∷ replicate 3 false)
-    × (map (is_valid_in 2) first_commands ≡ replicate 2 true ++ replicate 2 false)
+    × (map (is_valid_in 2) first_commands ≡ replicate 4 true)
 
 -- within the whole format they run, and each alone is refused where it is not taken
 abbrev pub without : List Extent

@@ -204,16 +204,15 @@ is_export (command.Compact table) = false
 is_export (command.Seal table block) = false
 is_export (command.Gather table block) = false
 
--- Whether a version takes checked transactions, ranges and totals, which came behind the first: the
--- second takes checked transactions, and none the others.
+-- Whether a version takes checked transactions, ranges and totals, which came with the second.
 abbrev pub takes_checked : ℕ → Bool
 takes_checked version = nat_le 2 version
 
 abbrev pub takes_ranges : ℕ → Bool
-takes_ranges version = false
+takes_ranges version = nat_le 2 version
 
 abbrev pub takes_totals : ℕ → Bool
-takes_totals version = false
+takes_totals version = nat_le 2 version
 
 -- the version takes the command
 abbrev pub takes_command : ℕ → Command → Bool

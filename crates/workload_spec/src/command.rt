@@ -1,6 +1,9 @@
 //! The commands of a workload.
+ghost use Rattle.std.specs.Prelude.{◌≡◌, IfOk};
 
 use cell_model::Row;
+use std::alloc::{AllocError, Global};
+use std::marker::Model;
 
 /// A command of a session. Tables are counted from 0 as they are declared, blocks from 0 within
 /// their table.
@@ -32,8 +35,8 @@ pub enum Command {
     Total {
         table: u32,
         column: u32,
-        low: i128,
-        high: i128,
+        low: Bound,
+        high: Bound,
     },
     /// Adds a row whose key has none.
     Insert {
@@ -76,4 +79,39 @@ pub enum Command {
     Export {
         table: u32,
     },
+}
+
+/// A bound of a total. It lies in a box, so that the other commands are no larger for it.
+#[derive(Debug, Drop)]
+pub struct Bound {
+    number: Box<i128>,
+}
+
+impl Model for Bound {
+    ghost use Rattle.std.specs.Prelude.{ℤ};
+    ghost use Rattle.std.specs.Coded.{coded_ℤ};
+
+    ghost Value = { ℤ };
+
+    ghost coded = { coded_ℤ };
+
+    ghost view = { λ bound. bound.number.value };
+}
+
+impl Bound {
+    /// The bound of this number.
+    pub fn new(alloc: Global, number: i128) -> Result<Bound, AllocError>
+        ensures { IfOk result (λ bound. bound ≡ number) }
+    {
+        Ok(Bound {
+            number: Box::new(alloc, number)?,
+        })
+    }
+
+    /// The number.
+    pub fn get(&self) -> i128
+        ensures { result ≡ self.now }
+    {
+        *self.number
+    }
 }

@@ -218,8 +218,8 @@ pub fn checked_begins_ranges_and_totals_are_refused_by_their_first_fault()
     ensures { AskedIsRefused }
 {}
 
-/// The second version takes checked begins, and neither takes ranges or totals.
-pub fn checked_begins_are_of_the_second_version()
+/// The second version takes checked begins, ranges and totals, and the first none of them.
+pub fn checked_begins_ranges_and_totals_are_of_the_second_version()
     ensures { TakenByVersion }
 {}
 

@@ -8,7 +8,7 @@ pub mod extent;
 pub mod reply;
 pub mod script;
 
-pub use command::Command;
+pub use command::{Bound, Command};
 pub use extent::{Commands, Extent};
 pub use reply::{ReplyLine, Said, SealCause, StaleRead, Who};
 pub use script::{Cause, Line, Round, Rounds, Script, Tables};

@@ -23,6 +23,7 @@ use Rattle.core_laws.proofs.Events.Moved.{Wide, IsReady, pair_follows, pair_wide
 use Rattle.core_laws.proofs.Events.Naming.{body_there}
 use Rattle.core_laws.proofs.Events.Owners.{key_open, key_slot, all_open, all_slots, transaction_is, open_with}
 use Rattle.core_laws.proofs.Events.Pruned.{prune_followed}
+use Rattle.core_laws.proofs.Events.Ranged.{range_serves}
 use Rattle.core_laws.proofs.Events.Served.{begin_serves, get_serves, commit_served}
 use Rattle.core_laws.proofs.Events.Still.{stays}
 use Rattle.core_laws.proofs.Events.Upkeep.{slots_kept}
@@ -252,6 +253,7 @@ module _ (sh : Shape) (s : Parts) (shape : IsShape sh) (ok : Sound sh s) (m : Is
       m f
   event_step (event.Delete own t key) lawful = delete_serves sh s own t key (key_open sh s ok own t key lawful.0) (key_slot sh s ok own t key lawful.0) m f
   event_step (event.Read own t b) lawful = as_before (event.Read own t b) (stays sh s m f)
+  event_step (event.Range own t low high) lawful = range_serves sh s own t low high (all_open sh s ok own lawful.0) (all_slots sh s ok own lawful.0 t) m f
   event_step (event.Commit own reads) lawful = commit_served sh s own (all_open sh s ok own lawful.0) (all_slots sh s ok own lawful.0) m f reads shape lawful.1.1
   event_step (event.Abort own) lawful = abort_serves sh s own (all_open sh s ok own lawful.0) m f
   event_step event.Oldest lawful = as_before event.Oldest (stays sh s m f)

@@ -13,7 +13,7 @@ use Rattle.isolation_spec.specs.declared.command.Answer.{Answer}
 use Rattle.txn_desk.specs.Desk.{DeskState}
 use Rattle.undo_chain.specs.Conflict.{other_writer, numbers_above, largest}
 use Rattle.core_laws.proofs.Following.Machines.{last_behind, of, found_session}
-use Rattle.isolation_laws.proofs.States.{state-order}
+use Rattle.isolation_laws.proofs.States.{any, state-order}
 use Rattle.block_spec.specs.Slots.{Slot, Row, writer_of, seen}
 use Rattle.core_laws.proofs.Slots.Keys.{HasKey}
 use Rattle.core_laws.specs.Following.Owned.{HasOpen}
@@ -22,6 +22,7 @@ use Rattle.event_spec.specs.Judged.{first_at}
 use Rattle.event_spec.specs.Lawful.{Among}
 use Rattle.event_spec.specs.Follows.{IsLive, Shows, Numbers, Follows}
 use Rattle.isolation_laws.proofs.Overlays.{at-laid_over, over}
+use Rattle.isolation_spec.specs.Order.{InOrder}
 use Rattle.core_laws.proofs.Slots.Endings.{seen_keyed}
 use Rattle.core_laws.proofs.Slots.Kept.{same_option, writer_current}
 use Rattle.core_laws.proofs.Following.Desks.{none_not}
@@ -85,6 +86,10 @@ module _ (slot : ℕ → ℕ → Slot) (places : ℕ → ℤ → List ℕ) (desk
   -- the session sees what it wrote at a place, and else what its snapshot has there
   pub at_seen : (place : Place) → at_place (seen_rows m tr) place ≡ over (at_place tr.own place) (at_place (state_at m.history tr.snapshot) place)
   at_seen place = (at-laid_over (state_at m.history tr.snapshot) tr.own place (state-order m.history tr.snapshot f.desked.history_order) (f.desked.own_order q tr mine)).0
+
+  -- what it sees stands in order
+  pub seen_order : InOrder (seen_rows m tr)
+  seen_order = (at-laid_over (state_at m.history tr.snapshot) tr.own any (state-order m.history tr.snapshot f.desked.history_order) (f.desked.own_order q tr mine)).1
 
   -- a row that a candidate of a key shows has this key
   pub key_shown : (t p : ℕ) (key : ℤ) (s r : ℕ) (row : Row) → Among p (places t key) → seen (slot t p) s r ≡ Some row → key_of row ≡ key

@@ -112,6 +112,7 @@ local sh (event.Delete own t key) hand s u covers here there fits = (
       fits.1,
 )
 local sh (event.Read own t b) hand s u covers here there fits = fits
+local sh (event.Range own t low high) hand s u covers here there fits = fits
 local sh (event.Commit own reads) hand s u covers here there fits = (stamp_same sh (event.Commit own reads) hand s u covers here there desk_there fits.0, fits.1)
   where
     desk_there : touches sh (event.Commit own reads) hand TheDesk ≡ true

@@ -430,6 +430,7 @@ module _ (sh : Shape) (s : Parts) (hand : List (Option CorePart)) (agrees : Agre
       (body_touched t key (option_to_list own.written) (candidates_of (shard_from (held_named (names sh) hand (ShardOf t (shard_of key)))) key))
       n piece away (change_judged sh s own t key) refl
   event_rests shape ok shards (event.Read own t b) covers lawful n piece is away = rests_nothing n piece
+  event_rests shape ok shards (event.Range own t low high) covers lawful n piece is away = rests_nothing n piece
   event_rests shape ok shards (event.Commit own reads) covers lawful n piece is away = judged (stale_in sh s own reads)
     where
       judged : (found : Option (Read × ℕ)) → Rests (after_judged sh s own found) n piece

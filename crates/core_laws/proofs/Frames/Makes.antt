@@ -353,6 +353,7 @@ module _ (sh : Shape) (hand : List (Option CorePart)) (s u : Parts) (shape : IsS
       (ap (after_change sh u own t (λ old. change.Gone)) (change_alike sh (event.Delete own t key) hand s u covers here there own t key reads)
       ∙ change_made (event.Delete own t key) covers own t key (λ old. change.Gone) reads (change_judged sh s own t key) refl) n piece
   event_made (event.Read own t b) covers lawful also n piece is was = alike_by _ _ refl n piece
+  event_made (event.Range own t low high) covers lawful also n piece is was = alike_by _ _ refl n piece
   event_made (event.Commit own reads) covers lawful also n piece is was =
       subst (λ found. Alike (after_judged sh s own (stale_in sh s own reads)) (after_judged sh u own found) n piece) (sym (stale_alike sh own reads hand s u covers here there))
       (judged_made (stale_in sh s own reads))

@@ -14,13 +14,13 @@ use Rattle.event_spec.specs.Lawful.{Among}
 use Rattle.event_spec.specs.Parts.{CorePart, Shape, Name, HeadOf, ShardOf, BodyOf, TheDesk, same_name, names, held_named, head_from, shard_from, slots_of, shard_of, below, blocks_of}
 use Rattle.event_spec.specs.declared.own.OwnTransaction.{OwnTransaction}
 use Rattle.event_spec.specs.Newest.{judged_reads, keys_within}
-use Rattle.event_spec.specs.Touched.{held_keys, held_places, is_body_of, is_body_written, passes_test, touched, touched_by_got, touched_by_insert, touched_by_key, touched_by_range, touched_by_reads}
+use Rattle.event_spec.specs.Touched.{held_keys, held_places, is_body_of, is_body_written, is_shard_in, passes_test, touched, touched_by_got, touched_by_insert, touched_by_key, touched_by_range, touched_by_reads}
 use Rattle.isolation_spec.specs.declared.place.Place.{Place}
 use Rattle.isolation_spec.specs.declared.read.KeyRange.{KeyRange}
 use Rattle.isolation_spec.specs.Reads.{ReadSet}
 use Rattle.core_laws.proofs.Frames.Looks.{got_among}
 use Rattle.core_laws.specs.Frames.Laws.{Ascends}
-use Rattle.isolation_spec.specs.Contents.{key_of}
+use Rattle.isolation_spec.specs.Contents.{at_place, key_of, place_at}
 use Rattle.key_index.specs.Candidates.{candidates_of}
 
 -- heads stand before shards, these before bodies, and the desk is last
@@ -205,27 +205,32 @@ module _ (sh : Shape) (one other : List (Option CorePart)) (k : ℕ) (same : (j 
   got_told place (BodyOf u x) is = key_told u x place.table place.key None is
   got_told place TheDesk is = refl
 
-  -- and whether a range does.
-  range_told : (range : KeyRange) (n : Name) → slice_get (names sh) k ≡ Some n
-      → touched_by_range sh (held_named (names sh) one) range n ≡ touched_by_range sh (held_named (names sh) other) range n
+  -- and whether a range does, some places of each of its keys being told besides.
+  keyed_told : (t : ℕ) (low high : ℤ) (first : ℤ → List ℕ) (n : Name) → slice_get (names sh) k ≡ Some n
+      → (is_shard_in t n || list_any (λ key. is_body_of t (first key ++ places_by one t key) n) (keys_by one t low high))
+      ≡ (is_shard_in t n || list_any (λ key. is_body_of t (first key ++ places_by other t key) n) (keys_by other t low high))
   unfolding rank
-  range_told range (HeadOf u) is = any_none (keys_by one range.table range.low range.high) ∙ sym (any_none (keys_by other range.table range.low range.high))
-  range_told range (ShardOf u i) is =
-      ap (λ b. (range.table == u) || b) (any_none (keys_by one range.table range.low range.high) ∙ sym (any_none (keys_by other range.table range.low range.high)))
-  range_told range (BodyOf u x) is =
-      any_alike (λ key. is_body_of range.table (places_by one range.table key) (BodyOf u x)) (λ key. is_body_of range.table (places_by other range.table key) (BodyOf u x)) (keys_by one range.table range.low range.high)
-      (λ key. ap (λ o. is_body_of range.table (candidates_of (shard_from o) key) (BodyOf u x)) (told u x is (ShardOf range.table (shard_of key)) (omega arith)))
-      ∙ ap (list_any (λ key. is_body_of range.table (places_by other range.table key) (BodyOf u x)))
-      (keys_told (below 8) (λ i. told u x is (ShardOf range.table i) (omega arith)))
+  keyed_told t low high first (HeadOf u) is = any_none (keys_by one t low high) ∙ sym (any_none (keys_by other t low high))
+  keyed_told t low high first (ShardOf u i) is =
+      ap (λ b. (t == u) || b) (any_none (keys_by one t low high) ∙ sym (any_none (keys_by other t low high)))
+  keyed_told t low high first (BodyOf u x) is =
+      any_alike (λ key. is_body_of t (first key ++ places_by one t key) (BodyOf u x)) (λ key. is_body_of t (first key ++ places_by other t key) (BodyOf u x)) (keys_by one t low high)
+      (λ key. ap (λ o. is_body_of t (first key ++ candidates_of (shard_from o) key) (BodyOf u x)) (told u x is (ShardOf t (shard_of key)) (omega arith)))
+      ∙ ap (list_any (λ key. is_body_of t (first key ++ places_by other t key) (BodyOf u x)))
+      (keys_told (below 8) (λ i. told u x is (ShardOf t i) (omega arith)))
     where
-      keys_told : (shards : List ℕ) → ((i : ℕ) → held_named (names sh) one (ShardOf range.table i) ≡ held_named (names sh) other (ShardOf range.table i))
-          → flat_map (λ i. keys_within range.low range.high (shard_from (held_named (names sh) one (ShardOf range.table i)))) shards
-          ≡ flat_map (λ i. keys_within range.low range.high (shard_from (held_named (names sh) other (ShardOf range.table i)))) shards
+      keys_told : (shards : List ℕ) → ((i : ℕ) → held_named (names sh) one (ShardOf t i) ≡ held_named (names sh) other (ShardOf t i))
+          → flat_map (λ i. keys_within low high (shard_from (held_named (names sh) one (ShardOf t i)))) shards
+          ≡ flat_map (λ i. keys_within low high (shard_from (held_named (names sh) other (ShardOf t i)))) shards
       keys_told [] alike = refl
       keys_told (i ∷ shards) alike =
-          ap (λ o. keys_within range.low range.high (shard_from o) ++ flat_map (λ i. keys_within range.low range.high (shard_from (held_named (names sh) one (ShardOf range.table i)))) shards) (alike i)
-          ∙ ap (λ ks. keys_within range.low range.high (shard_from (held_named (names sh) other (ShardOf range.table i))) ++ ks) (keys_told shards alike)
-  range_told range TheDesk is = any_none (keys_by one range.table range.low range.high) ∙ sym (any_none (keys_by other range.table range.low range.high))
+          ap (λ o. keys_within low high (shard_from o) ++ flat_map (λ i. keys_within low high (shard_from (held_named (names sh) one (ShardOf t i)))) shards) (alike i)
+          ∙ ap (λ ks. keys_within low high (shard_from (held_named (names sh) other (ShardOf t i))) ++ ks) (keys_told shards alike)
+  keyed_told t low high first TheDesk is = any_none (keys_by one t low high) ∙ sym (any_none (keys_by other t low high))
+
+  range_told : (range : KeyRange) (n : Name) → slice_get (names sh) k ≡ Some n
+      → touched_by_range sh (held_named (names sh) one) range n ≡ touched_by_range sh (held_named (names sh) other) range n
+  range_told range n is = keyed_told range.table range.low range.high (λ key. []) n is
 
   -- So is whether a commit does.
   commit_told : (own : OwnTransaction) (reads : Option ReadSet) (n : Name) → slice_get (names sh) k ≡ Some n
@@ -260,6 +265,7 @@ module _ (sh : Shape) (one other : List (Option CorePart)) (k : ℕ) (same : (j 
   by_name (event.Delete own t key) (BodyOf u x) is = key_told u x t key own.written is
   by_name (event.Delete own t key) TheDesk is = refl
   by_name (event.Read own t b) n is = refl
+  by_name (event.Range own t low high) n is = keyed_told t low high (λ key. option_to_list (at_place own.writes (place_at t key))) n is
   by_name (event.Commit own reads) n is = commit_told own reads n is
   by_name (event.Abort own) n is = refl
   by_name event.Oldest n is = refl

@@ -4,14 +4,14 @@ use mathlib.Core.Logic.{inl, inr}
 use Rattle.std.specs.Prelude.{filter, option_and_then, option_to_list, Result}
 use Rattle.std.specs.List.{cons_option, filter_map, flat_map, list_any}
 use Rattle.std.specs.Option.{option_or}
-use Rattle.std.proofs.lemmas.Bool.{or_left, and_from}
+use Rattle.std.proofs.lemmas.Bool.{or_left, or_right, and_from}
 use Rattle.block_layout.specs.Place.{block_of, slot_of, place_of}
 use Rattle.block_spec.specs.Bodies.{Body, dropped_from, has_row, is_imaged, is_loose, rows_of, seal_fault, slot_in, turns}
 use Rattle.block_spec.specs.declared.phase.Phase.{Phase}
 use Rattle.block_spec.specs.Looks.{looked}
 use Rattle.block_spec.specs.Slots.{Row, Slot, has_none, is_bare, seen}
 use Rattle.core_laws.proofs.Events.Heads.{block_is}
-use Rattle.core_laws.proofs.Events.Lists.{member_below}
+use Rattle.core_laws.proofs.Events.Lists.{in_right, member_below}
 use Rattle.core_laws.proofs.Events.Slots.{num_refl}
 use Rattle.event_spec.specs.declared.event.Event.TheVariants as event
 use Rattle.event_spec.specs.declared.event.MovePair.{MovePair}
@@ -21,16 +21,17 @@ use Rattle.event_spec.specs.declared.part.Head.{Head}
 use Rattle.event_spec.specs.declared.reply.Reply.TheVariants as reply
 use Rattle.event_spec.specs.declared.reply.WriteFault.{WriteFault}
 use Rattle.event_spec.specs.declared.reply.WriteFault.TheVariants.{Exists, Full, Missing}
-use Rattle.event_spec.specs.Effects.{CoreEvent, change_judged, found, has_key, held_pairs, holds, insert_judged, is_some_write, stale_in}
-use Rattle.event_spec.specs.Judged.{current_place, fault_of, first_at, found_at, found_by, freezing_of, judged, judged_change, judged_insert, newer_by, next_place}
+use Rattle.event_spec.specs.Effects.{CoreEvent, change_judged, found, has_key, held_pairs, holds, insert_judged, is_some_write, range_found, range_keys, stale_in}
+use Rattle.event_spec.specs.Judged.{current_place, fault_of, first_at, found_at, found_by, freezing_of, judged, judged_change, judged_insert, newer_by, next_place, own_key}
 use Rattle.event_spec.specs.Lawful.{Among, HasBlock}
-use Rattle.event_spec.specs.Parts.{CorePart, Parts, Shape, HeadOf, ShardOf, BodyOf, TheDesk, below, body_at, desk_at, desk_from, head_at, head_from, held_named, is_head, names, places_at, same_name, shard_from, shard_of, slot_at, slots_of}
+use Rattle.event_spec.specs.Parts.{CorePart, Parts, Shape, Name, HeadOf, ShardOf, BodyOf, TheDesk, below, body_at, desk_at, desk_from, head_at, head_from, held_named, is_head, names, places_at, same_name, shard_from, shard_of, slot_at, slots_of}
 use Rattle.event_spec.specs.Replies.{CoreReply, is_elsewhere, reply_to_commit, reply_to_image, reply_to_read, reply_to_seal, reply_to_write, row_read, rows_read}
 use Rattle.event_spec.specs.Sound.{IsShape, Sound}
-use Rattle.event_spec.specs.Touched.{is_body_moved, is_body_of, touched_by_key, touching}
+use Rattle.event_spec.specs.Newest.{keys_within}
+use Rattle.event_spec.specs.Touched.{held_keys, is_body_moved, is_body_of, is_shard_in, seen_places, touched_by_key, touching}
 use Rattle.isolation_spec.specs.declared.read.Read.{Read}
 use Rattle.core_laws.proofs.Frames.Fitness.{body_same, body_touched, current_among, current_same, part_same, shard_touched}
-use Rattle.core_laws.proofs.Frames.Judged.{desk_touched, stale_alike}
+use Rattle.core_laws.proofs.Frames.Judged.{desk_touched, flat_alike, stale_alike}
 use Rattle.core_laws.proofs.Frames.Looks.{any_true, block_among, look, name_self, touches}
 use Rattle.core_laws.specs.Frames.Laws.{Replies}
 use Rattle.hall_rule.specs.Hands.{Agrees, Covers}
@@ -55,11 +56,11 @@ flat_same one other [] same = refl
 flat_same one other (p ∷ ps) same =
     ap (λ y. y ++ flat_map other ps) (same p (inl refl)) ∙ ap (λ y. one p ++ y) (flat_same one other ps (λ r a. same r (inr a)))
 
--- Options that agree at each of some places hold the same in all.
-kept_same : {Y : Type 0} (one other : ℕ → Option Y) (ps : List ℕ) → ((p : ℕ) → Among p ps → other p ≡ one p) → filter_map other ps ≡ filter_map one ps
+-- Options that agree at each of some members hold the same in all.
+kept_same : {X Y : Type 0} (one other : X → Option Y) (xs : List X) → ((x : X) → Among x xs → other x ≡ one x) → filter_map other xs ≡ filter_map one xs
 kept_same one other [] same = refl
-kept_same one other (p ∷ ps) same =
-    ap (λ y. cons_option y (filter_map other ps)) (same p (inl refl)) ∙ ap (cons_option (one p)) (kept_same one other ps (λ r a. same r (inr a)))
+kept_same one other (x ∷ xs) same =
+    ap (λ y. cons_option y (filter_map other xs)) (same x (inl refl)) ∙ ap (cons_option (one x)) (kept_same one other xs (λ r a. same r (inr a)))
 
 -- tests that agree on each member keep the same
 pub filter_same : {X : Type 0} (one other : X → Bool) (xs : List X) → ((x : X) → Among x xs → other x ≡ one x) → filter other xs ≡ filter one xs
@@ -287,6 +288,47 @@ module _ (sh : Shape) (hand : List (Option CorePart)) (s u : Parts) (here : Agre
           (λ row. cond (is_elsewhere (at_place own.writes (place_at t (key_of row))) (place_of b j)) None (Some row))
           (seen x own.snapshot.stamp own.session)) (slot j a))
 
+  -- ---- ranges
+
+  module _ (own : OwnTransaction) (t : ℕ) (low high : ℤ) (covers : Covers (touching sh (event.Range own t low high)) hand) where
+    -- the event, and the parts in the hand by name
+    abbrev range : CoreEvent
+    range = event.Range own t low high
+
+    abbrev held : Name → Option CorePart
+    held = held_named (names sh) hand
+
+    -- A range touches all shards of its table,
+    shard_there : (i : ℕ) → touches sh range hand (ShardOf t i) ≡ true
+    shard_there i = or_left (is_shard_in t (ShardOf t i)) (list_any (λ key. is_body_of t (seen_places sh held own t key) (ShardOf t i)) (held_keys sh held t low high)) (num_refl t)
+
+    -- so it has the same keys in both,
+    range_keys_alike : range_keys sh u t low high ≡ range_keys sh s t low high
+    range_keys_alike = flat_alike _ _ (below 8) (λ i b. ap (λ o. keys_within low high (shard_from o)) (part_same sh range hand s u covers here there (ShardOf t i) (shard_there i)))
+
+    keys_held : held_keys sh held t low high ≡ range_keys sh s t low high
+    keys_held = flat_alike _ _ (below 8) (λ i b. ap (λ o. keys_within low high (shard_from o)) (look sh range hand s (ShardOf t i) covers here (shard_there i)))
+
+    -- and the bodies where a key's row may be found,
+    body_there : (key : ℤ) → Among key (range_keys sh s t low high) → (p : ℕ) → Among p (seen_places sh held own t key) → touches sh range hand (BodyOf t (block_of p)) ≡ true
+    body_there key k p b =
+        or_right (is_shard_in t (BodyOf t (block_of p))) (list_any (λ key. is_body_of t (seen_places sh held own t key) (BodyOf t (block_of p))) (held_keys sh held t low high))
+        (any_true (λ key. is_body_of t (seen_places sh held own t key) (BodyOf t (block_of p))) (held_keys sh held t low high) key (subst (Among key) (sym keys_held) k)
+        (and_from (t == t) (list_any (λ place. block_of place == block_of p) (seen_places sh held own t key)) (num_refl t) (block_among (seen_places sh held own t key) p b)))
+
+    -- so that what it reads of each key is the same in both.
+    range_reads : (key : ℤ) → Among key (range_keys sh s t low high) → ReadsKey sh range hand s u covers here there (own_key t key own) t key
+    range_reads key k = reads_key sh range hand s u covers here there (own_key t key own) t key (shard_there (shard_of key))
+        (λ p a. body_there key k p (in_right (option_to_list (at_place own.writes (place_at t key))) (in_hand t key) p a))
+        (λ p is. body_there key k p (subst (λ o. Among p (option_to_list o ++ in_hand t key)) (sym is) (inl refl)))
+
+    -- a range finds the same rows in both
+    range_alike : range_found sh u own t low high ≡ range_found sh s own t low high
+    range_alike =
+        ap (filter_map (λ key. found sh u (own_key t key own) t key)) range_keys_alike
+        ∙ kept_same (λ key. found sh s (own_key t key own) t key) (λ key. found sh u (own_key t key own) t key) (range_keys sh s t low high)
+        (λ key k. found_alike sh range hand s u covers here there (own_key t key own) t key (range_reads key k))
+
 -- The reply to a begin: the desk's newest stamp and its count of commits.
 abbrev begun_of : DeskState → CoreReply
 begun_of desk = reply.Begun (record { stamp = desk.newest; number = desk.commits })
@@ -303,6 +345,7 @@ replies sh (event.Delete own t key) hand s u shape ok fits here there covers =
     ap reply_to_write (change_alike sh (event.Delete own t key) hand s u covers here there own t key (delete_reads sh hand s u here there own t key covers))
 replies sh (event.Read own t b) hand s u shape ok fits here there covers =
     read_alike sh hand s u here there own t b shape ok fits (body_same sh (event.Read own t b) hand s u covers here there t b (name_self (BodyOf t b)))
+replies sh (event.Range own t low high) hand s u shape ok fits here there covers = ap reply.Rows (range_alike sh hand s u here there own t low high covers)
 replies sh (event.Commit own reads) hand s u shape ok fits here there covers =
     ap (reply_to_commit sh u own) (stale_alike sh own reads hand s u covers here there) ∙ judged_alike (stale_in sh s own reads)
   where

@@ -234,6 +234,7 @@ module _ (sh : Shape) (s : Parts) where
   event_holds (event.Update own t row) u i x h = change_holds own t (λ old. change.Patch (differences 0 old row)) (change_judged sh s own t (key_of row)) u i x h
   event_holds (event.Delete own t key) u i x h = change_holds own t (λ old. change.Gone) (change_judged sh s own t key) u i x h
   event_holds (event.Read own t b) u i x h = h
+  event_holds (event.Range own t low high) u i x h = h
   event_holds (event.Commit own reads) u i x h = judged (stale_in sh s own reads)
     where
       judged : (found : Option (Read × ℕ)) → ShardHolds i ((after_judged sh s own found).shard u i x)

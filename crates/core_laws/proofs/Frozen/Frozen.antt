@@ -211,6 +211,7 @@ module _ (sh : Shape) (s : Parts) (shape : IsShape sh) (ok : Sound sh s) (t b : 
   event_same (event.Update own u row) lawful ne = change_same own u (key_of row) (λ old. change.Patch (differences 0 old row)) lawful.1.2
   event_same (event.Delete own u key) lawful ne = change_same own u key (λ old. change.Gone) lawful.1.1
   event_same (event.Read own u y) lawful ne = same (body_at sh s t b)
+  event_same (event.Range own u low high) lawful ne = same (body_at sh s t b)
   event_same (event.Commit own reads) lawful ne = judged (stale_in sh s own reads)
     where
       judged : (found : Option (Read × ℕ)) → Same (body_at sh s t b) ((after_judged sh s own found).body t b (body_at sh s t b))

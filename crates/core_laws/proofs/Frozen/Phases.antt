@@ -114,6 +114,7 @@ module _ (sh : Shape) (s : Parts) (t b : ℕ) where
   event_goes (event.Update own u row) y = change_goes own u (λ old. change.Patch (differences 0 old row)) (change_judged sh s own u (key_of row)) y
   event_goes (event.Delete own u key) y = change_goes own u (λ old. change.Gone) (change_judged sh s own u key) y
   event_goes (event.Read own u x) y = stays y y refl
+  event_goes (event.Range own u low high) y = stays y y refl
   event_goes (event.Commit own reads) y = judged (stale_in sh s own reads)
     where
       judged : (found : Option (Read × ℕ)) → Goes y ((after_judged sh s own found).body t b y)

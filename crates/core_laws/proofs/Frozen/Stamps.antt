@@ -100,6 +100,7 @@ module _ (sh : Shape) (s : Parts) (t b : ℕ) where
   event_last (event.Update own u row) y = change_last own u (λ old. change.Patch (differences 0 old row)) (change_judged sh s own u (key_of row)) y
   event_last (event.Delete own u key) y = change_last own u (λ old. change.Gone) (change_judged sh s own u key) y
   event_last (event.Read own u x) y = omega arith
+  event_last (event.Range own u low high) y = omega arith
   event_last (event.Commit own reads) y = judged (stale_in sh s own reads)
     where
       judged : (found : Option (Read × ℕ)) → y.last ≤ ((after_judged sh s own found).body t b y).last

@@ -2,7 +2,7 @@
 use Rattle.std.proofs.Common.{◌≡◌, ℕ, Bool, true, false, cond, List, [], ◌∷◌, is_some, fold, refl, ap}
 use mathlib.Core.Logic.{inl, inr}
 use Rattle.std.specs.Prelude.{IsSome}
-use Rattle.core_laws.proofs.Events.Owners.{key_open}
+use Rattle.core_laws.proofs.Events.Owners.{all_open, key_open}
 use Rattle.core_laws.proofs.Events.Steps.{steps}
 use Rattle.core_laws.specs.Events.Laws.{IsStep, command_in}
 use Rattle.core_laws.specs.Events.Named.{FollowsMachine}
@@ -61,6 +61,7 @@ module _ (sh : Shape) (s : Parts) (ok : Sound sh s) (m : IsolationMachine) (f : 
   memory_step (event.Update own t row) lawful takes = (inr (inl tt), has_one own.session own.snapshot (key_open sh s ok own t (key_of row) lawful.0), refl)
   memory_step (event.Delete own t key) lawful takes = (inr (inl tt), has_one own.session own.snapshot (key_open sh s ok own t key lawful.0), refl)
   memory_step (event.Read own t b) lawful takes = refl
+  memory_step (event.Range own t low high) lawful takes = (inl tt, has_one own.session own.snapshot (all_open sh s ok own lawful.0), refl)
   memory_step (event.Commit own reads) lawful takes = cc
   memory_step (event.Abort own) lawful takes = cc
   memory_step event.Oldest lawful takes = refl

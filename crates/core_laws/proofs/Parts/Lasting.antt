@@ -86,6 +86,7 @@ module _ (sh : Shape) (s : Parts) (ok : Sound sh s) where
   event_up (event.Update own t row) lawful = change_up own t (λ old. change.Patch (differences 0 old row)) (change_judged sh s own t (key_of row))
   event_up (event.Delete own t key) lawful = change_up own t (λ old. change.Gone) (change_judged sh s own t key)
   event_up (event.Read own t b) lawful = omega arith
+  event_up (event.Range own t low high) lawful = omega arith
   event_up (event.Commit own reads) lawful = judged (stale_in sh s own reads)
     where
       judged : (found : Option (Read × ℕ)) → oldest_of (desk_at sh s) ≤ oldest_of ((after_judged sh s own found).desk (desk_at sh s))
@@ -124,6 +125,7 @@ learns sh (event.Insert own t row) oldest s teaches = absurd teaches
 learns sh (event.Update own t row) oldest s teaches = absurd teaches
 learns sh (event.Delete own t key) oldest s teaches = absurd teaches
 learns sh (event.Read own t b) oldest s teaches = absurd teaches
+learns sh (event.Range own t low high) oldest s teaches = absurd teaches
 learns sh (event.Commit own reads) oldest s teaches = absurd teaches
 learns sh (event.Abort own) oldest s teaches = absurd teaches
 learns sh event.Oldest oldest s teaches =

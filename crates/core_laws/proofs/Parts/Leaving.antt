@@ -349,6 +349,7 @@ module _ (sh : Shape) (s : Parts) (shape : IsShape sh) (ok : Sound sh s) (q : �
   event_writes (event.Update own t row) lawful ne = change_writes own t (key_of row) (λ old. change.Patch (differences 0 old row)) lawful.1.2 (other own.session ne)
   event_writes (event.Delete own t key) lawful ne = change_writes own t key (λ old. change.Gone) lawful.1.1 (other own.session ne)
   event_writes (event.Read own t b) lawful ne = same_parts
+  event_writes (event.Range own t low high) lawful ne = same_parts
   event_writes (event.Commit own reads) lawful ne = judged (stale_in sh s own reads)
     where
       judged : (found : Option (Read × ℕ)) (t p : ℕ) → write_on q t p (slot_at sh (each_changed (after_judged sh s own found) (names sh) s) t p) ≡ write_on q t p (slot_at sh s t p)
@@ -399,6 +400,7 @@ module _ (sh : Shape) (s : Parts) (shape : IsShape sh) (ok : Sound sh s) (q : �
   event_snapshot (event.Update own t row) some lawful ne = change_snapshot own t (λ old. change.Patch (differences 0 old row)) (change_judged sh s own t (key_of row))
   event_snapshot (event.Delete own t key) some lawful ne = change_snapshot own t (λ old. change.Gone) (change_judged sh s own t key)
   event_snapshot (event.Read own t b) some lawful ne = refl
+  event_snapshot (event.Range own t low high) some lawful ne = refl
   event_snapshot (event.Commit own reads) some lawful ne = judged (stale_in sh s own reads)
     where
       judged : (found : Option (Read × ℕ)) → snapshot_of ((after_judged sh s own found).desk (desk_at sh s)) q ≡ snapshot_of (desk_at sh s) q

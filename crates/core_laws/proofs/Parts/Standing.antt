@@ -48,6 +48,7 @@ depends sh (event.Insert own t row) s u same facts stands = owns_key sh s u own 
 depends sh (event.Update own t row) s u same facts stands = owns_key sh s u own t (key_of row) (same own.session (λ i. Some own.session)) stands
 depends sh (event.Delete own t key) s u same facts stands = owns_key sh s u own t key (same own.session (λ i. Some own.session)) stands
 depends sh (event.Read own t b) s u same facts stands = owns_all sh s u own (same own.session (λ i. Some own.session)) stands
+depends sh (event.Range own t low high) s u same facts stands = owns_all sh s u own (same own.session (λ i. Some own.session)) stands
 depends sh (event.Commit own reads) s u same facts stands = owns_all sh s u own (same own.session (λ i. Some own.session)) stands
 depends sh (event.Abort own) s u same facts stands = owns_all sh s u own (same own.session (λ i. Some own.session)) stands
 depends sh event.Oldest s u same facts stands = tt

@@ -238,6 +238,7 @@ module _ (sh : Shape) (s : Parts) (shape : IsShape sh) (ok : Sound sh s) (q : �
       ∙ sym (fits_length (columns_in sh t) row (fits_columns sh t row lawful.1.0 lawful.1.1))))
   event_seen (event.Delete own t key) lawful ne = change_seen own t key (λ old. change.Gone) lawful.1.1 (other own.session ne) (λ p old is. gone_undone (slot_at sh s t p))
   event_seen (event.Read own t b) lawful ne = same_parts
+  event_seen (event.Range own t least greatest) lawful ne = same_parts
   event_seen (event.Commit own reads) lawful ne = judged (stale_in sh s own reads)
     where
       judged : (found : Option (Read × ℕ)) (t p : ℕ) → seen (slot_at sh (each_changed (after_judged sh s own found) (names sh) s) t p) snapshot.stamp q ≡ seen (slot_at sh s t p) snapshot.stamp q

@@ -23,6 +23,7 @@ module _ (sh : Shape) (s : Parts) (shape : IsShape sh) (ok : Sound sh s) where
   keeps_shaped (event.Update own t row) lawful = update_keeps sh s shape ok own t row lawful
   keeps_shaped (event.Delete own t key) lawful = delete_keeps sh s shape ok own t key lawful
   keeps_shaped (event.Read own t b) lawful = nothing_keeps sh s (shaped sh s ok)
+  keeps_shaped (event.Range own t low high) lawful = nothing_keeps sh s (shaped sh s ok)
   keeps_shaped (event.Commit own reads) lawful = judged (stale_in sh s own reads)
     where
       judged : (found : Option (Read × ℕ)) → Shaped sh (each_changed (after_judged sh s own found) (names sh) s)

@@ -87,6 +87,7 @@ thaws_body sh (event.Insert own u row) k n at is = cc
 thaws_body sh (event.Update own u row) k n at is = cc
 thaws_body sh (event.Delete own u key) k n at is = cc
 thaws_body sh (event.Read own u y) k n at is = cc
+thaws_body sh (event.Range own u low high) k n at is = cc
 thaws_body sh (event.Commit own reads) k n at is = cc
 thaws_body sh (event.Abort own) k n at is = cc
 thaws_body sh event.Oldest k n at is = cc

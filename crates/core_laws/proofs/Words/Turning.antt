@@ -67,6 +67,7 @@ module _ (sh : Shape) (s : Parts) (t b : ℕ) (x : Body) where
   body_still (event.Update own u row) still = absurd (true_false still)
   body_still (event.Delete own u key) still = absurd (true_false still)
   body_still (event.Read own u y) still = refl
+  body_still (event.Range own u low high) still = refl
   body_still (event.Commit own reads) still = judged (stale_in sh s own reads)
     where
       go : (wrote : Bool) → head_by ((cond wrote (committed_in own.session ((desk_at sh s).newest + 1) ((desk_at sh s).commits + 1)) (λ (body : Body). body)) x) ≡ head_by x
@@ -206,6 +207,7 @@ module _ (sh : Shape) (s : Parts) (shape : IsShape sh) (ok : Sound sh s) (t b : 
     body_turns (event.Update own u row) lawful = inr (not_none k, turned_warm x (made (event.Update own u row)) small (change_warms own u (key_of row) (λ old. change.Patch (differences 0 old row)) lawful.1.2))
     body_turns (event.Delete own u key) lawful = inr (not_none k, turned_warm x (made (event.Delete own u key)) small (change_warms own u key (λ old. change.Gone) lawful.1.1))
     body_turns (event.Read own u y) lawful = inr (not_none k, inl refl)
+    body_turns (event.Range own u low high) lawful = inr (not_none k, inl refl)
     body_turns (event.Commit own reads) lawful = inr (not_none k, judged (stale_in sh s own reads))
       where
         judged : (found : Option (Read × ℕ))

@@ -1,5 +1,6 @@
 -- What each event is to the snapshot-isolation machine.
-use Rattle.std.specs.Prelude.{◌≡◌, ℕ, ℤ, false, Option, None, Some, IsSomeAnd, length}
+use Rattle.std.specs.Prelude.{◌≡◌, ℕ, ℤ, false, List, Option, None, Some, IsSomeAnd, length}
+use Rattle.block_spec.specs.Slots.{Row}
 use Rattle.core_laws.specs.Events.Named.{FollowsMachine}
 use Rattle.event_spec.specs.declared.event.Event.TheVariants as event
 use Rattle.event_spec.specs.declared.reply.Reply.TheVariants as reply
@@ -9,11 +10,12 @@ use Rattle.event_spec.specs.Effects.{CoreEvent, effect}
 use Rattle.event_spec.specs.declared.own.OwnTransaction.{OwnTransaction}
 use Rattle.event_spec.specs.Lawful.{IsLawful, OwnsAll, reads_handed}
 use Rattle.event_spec.specs.Parts.{Parts, Shape, desk_at, places_at, slot_at}
-use Rattle.event_spec.specs.Replies.{CoreReply, reply_to}
+use Rattle.event_spec.specs.Replies.{CoreReply, in_key_order, reply_to}
 use Rattle.event_spec.specs.Sound.{Sound, IsShape}
 use Rattle.core_laws.specs.Following.Laws.{command_of}
 use Rattle.core_laws.specs.Following.Owned.{HasOpen, OwnSlot}
 use Rattle.isolation_spec.specs.Contents.{at_place, place_at}
+use Rattle.isolation_spec.specs.declared.command.Act.{Act}
 use Rattle.isolation_spec.specs.declared.command.Act.TheVariants as act
 use Rattle.isolation_spec.specs.declared.command.Answer.TheVariants as answer
 use Rattle.isolation_spec.specs.declared.command.Command.{Command}
@@ -33,29 +35,44 @@ outcome_of_fault fault.Missing = store.Answered answer.Missing
 outcome_of_fault (fault.Freezing block stamp) = store.Freezing
 outcome_of_fault (fault.Full inserts) = store.Full
 
+-- What the rows of a reply are to a store over the machine: those of a range its answer, in the order
+-- of their keys. A scan and a total are made of many reads.
+abbrev pub rows_answered : Act → List Row → Option Outcome
+rows_answered (act.Range table low high) rows =
+    Some (store.Answered (answer.Rows (in_key_order table rows)))
+rows_answered (act.Begin checked) rows = None
+rows_answered (act.Get table key) rows = None
+rows_answered (act.Scan table) rows = None
+rows_answered (act.Total table column low high) rows = None
+rows_answered (act.Insert table row) rows = None
+rows_answered (act.Update table row) rows = None
+rows_answered (act.Delete table key) rows = None
+rows_answered act.Commit rows = None
+rows_answered act.Abort rows = None
+
 -- What a reply to a session's command is to a store over the machine. A reply to any other event is
 -- nothing to it.
-abbrev pub outcome_of : CoreReply → Option Outcome
-outcome_of (reply.Begun snapshot) = Some (store.Answered (answer.At snapshot.number))
-outcome_of (reply.Found row) = Some (store.Answered (answer.Found row))
-outcome_of (reply.Written place) = Some (store.Answered answer.Accepted)
-outcome_of (reply.Refused refusal) = Some (outcome_of_fault refusal)
-outcome_of (reply.Rows rows) = None
-outcome_of (reply.Shared rows) = None
-outcome_of (reply.Committed number) = Some (store.Answered (answer.Committed number))
-outcome_of (reply.Stale what number) = Some (store.Answered (answer.Stale what number))
-outcome_of reply.Aborted = Some (store.Answered answer.Aborted)
-outcome_of (reply.Oldest oldest) = None
-outcome_of (reply.Turned turned) = None
-outcome_of (reply.Dropped count) = None
-outcome_of (reply.Looked look) = None
-outcome_of (reply.Moved count) = None
-outcome_of (reply.Sealed stamp) = None
-outcome_of (reply.NotSealed cause) = None
-outcome_of (reply.Imaged rows) = None
-outcome_of reply.NoSeal = None
-outcome_of reply.Thawed = None
-outcome_of reply.Memory = Some store.Memory
+abbrev pub outcome_of : Act → CoreReply → Option Outcome
+outcome_of what (reply.Begun snapshot) = Some (store.Answered (answer.At snapshot.number))
+outcome_of what (reply.Found row) = Some (store.Answered (answer.Found row))
+outcome_of what (reply.Written place) = Some (store.Answered answer.Accepted)
+outcome_of what (reply.Refused refusal) = Some (outcome_of_fault refusal)
+outcome_of what (reply.Rows rows) = rows_answered what rows
+outcome_of what (reply.Shared rows) = None
+outcome_of what (reply.Committed number) = Some (store.Answered (answer.Committed number))
+outcome_of what (reply.Stale read number) = Some (store.Answered (answer.Stale read number))
+outcome_of what reply.Aborted = Some (store.Answered answer.Aborted)
+outcome_of what (reply.Oldest oldest) = None
+outcome_of what (reply.Turned turned) = None
+outcome_of what (reply.Dropped count) = None
+outcome_of what (reply.Looked look) = None
+outcome_of what (reply.Moved count) = None
+outcome_of what (reply.Sealed stamp) = None
+outcome_of what (reply.NotSealed cause) = None
+outcome_of what (reply.Imaged rows) = None
+outcome_of what reply.NoSeal = None
+outcome_of what reply.Thawed = None
+outcome_of what reply.Memory = Some store.Memory
 
 -- The command that an event is to the machine, to which it is all one whether a transaction that
 -- begins is checked. A read of one block is none, nor is upkeep.
@@ -66,6 +83,8 @@ command_in (event.Insert own table row) = Some (command_of own.session (act.Inse
 command_in (event.Update own table row) = Some (command_of own.session (act.Update table row))
 command_in (event.Delete own table key) = Some (command_of own.session (act.Delete table key))
 command_in (event.Read own table block) = None
+command_in (event.Range own table low high) =
+    Some (command_of own.session (act.Range table low high))
 command_in (event.Commit own reads) = Some (command_of own.session act.Commit)
 command_in (event.Abort own) = Some (command_of own.session act.Abort)
 command_in event.Oldest = None
@@ -83,7 +102,7 @@ command_in (event.Thaw table block) = None
 -- may give, which leaves the machine like this.
 abbrev pub IsTold : IsolationMachine → Option ReadSet → Command → CoreReply → IsolationMachine
     → Type 0
-IsTold machine reads command said next = IsSomeAnd (outcome_of said)
+IsTold machine reads command said next = IsSomeAnd (outcome_of command.act said)
     (λ outcome. Allows machine reads command outcome next)
 
 -- A command's event is answered by the machine, and any other leaves it as it is.

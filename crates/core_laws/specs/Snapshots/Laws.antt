@@ -1,12 +1,14 @@
 -- What an open session sees, whatever others and the upkeep do.
-use Rattle.std.specs.Prelude.{◌≡◌, ◌≢◌, ℕ, ℤ, true, Some}
+use Rattle.std.specs.Prelude.{◌≡◌, ◌≢◌, ℕ, ℤ, true, Some, AllPairs}
 use Rattle.block_spec.specs.Bodies.{is_imaged, rows_of}
 use Rattle.block_spec.specs.Slots.{Row, seen}
 use Rattle.core_laws.specs.Events.Named.{FollowsMachine}
 use Rattle.event_spec.specs.declared.event.Event.TheVariants as event
 use Rattle.event_spec.specs.declared.own.OwnKey.{OwnKey}
 use Rattle.event_spec.specs.declared.own.OwnTransaction.{OwnTransaction}
-use Rattle.event_spec.specs.Effects.{CoreEvent, effect}
+use Rattle.core_laws.specs.Frames.Shards.{ShardsHold}
+use Rattle.event_spec.specs.Effects.{CoreEvent, effect, found, range_keys}
+use Rattle.event_spec.specs.Judged.{own_key}
 use Rattle.event_spec.specs.Lawful.{HasBlock, HasPlace, IsLawful, OwnsAll, session_of}
 use Rattle.event_spec.specs.Parts.{Parts, Shape, body_at, desk_at, slot_at}
 use Rattle.event_spec.specs.Replies.{row_read, rows_read}
@@ -25,13 +27,31 @@ SeenStays = (shape : Shape) (parts : Parts) (made : CoreEvent) (session : ℕ) (
     → seen (slot_at shape (effect shape parts made) table place) snapshot.stamp session
     ≡ seen (slot_at shape parts table place) snapshot.stamp session
 
--- A get and a read change no part, so between two of its writes a session's own events change
--- nothing either.
+-- A get, a read and a range change no part, so between two of its writes a session's own events
+-- change nothing either.
 abbrev pub LooksLeave : Type 0
 LooksLeave = (shape : Shape) (parts : Parts)
     → ((own : OwnKey) (table : ℕ) (key : ℤ) → effect shape parts (event.Get own table key) ≡ parts)
     × ((own : OwnTransaction) (table block : ℕ) → effect shape parts (event.Read own table block)
     ≡ parts)
+    × ((own : OwnTransaction) (table : ℕ) (low high : ℤ)
+    → effect shape parts (event.Range own table low high) ≡ parts)
+
+-- The rows that a session finds of the keys of a range are the machine's, and each key stands once.
+pub record FindsEachOnce (shape : Shape) (parts : Parts) (own : OwnTransaction) (table : ℕ) (low high : ℤ) (rows : State) : Type 0 where
+  pub shown : (key : ℤ) → found shape parts (own_key table key own) table key
+      ≡ at_place rows (place_at table key)
+  pub keyed : (key : ℤ) (row : Row) → found shape parts (own_key table key own) table key ≡ Some row
+      → key_of row ≡ key
+  pub once : AllPairs (λ one other. one ≢ other) (range_keys shape parts table low high)
+
+abbrev pub RangesFindEachOnce : Type 0
+RangesFindEachOnce = (shape : Shape) (parts : Parts) (own : OwnTransaction) (table : ℕ)
+    (low high : ℤ) (machine : IsolationMachine) (open' : Transaction)
+    → IsShape shape → Sound shape parts → ShardsHold shape parts → OwnsAll shape own parts
+    → FollowsMachine shape parts machine
+    → transaction_of own.session machine ≡ Some open'
+    → FindsEachOnce shape parts own table low high (seen_rows machine open')
 
 -- The session's reads of all blocks of a table hold the rows that it sees, each at one place: as a
 -- read of the place's block gives it, which a shared image is as well.

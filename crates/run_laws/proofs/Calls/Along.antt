@@ -128,6 +128,7 @@ behind_is session own (event.Insert handed table row) told was is = wrote_is ses
 behind_is session own (event.Update handed table row) told was is = wrote_is session (place_of table row) own told was
 behind_is session own (event.Delete handed table key) told was is = wrote_is session (place_at table key) own told was
 behind_is session own (event.Read handed table block) told was is = was
+behind_is session own (event.Range handed table low high) told was is = was
 behind_is session own (event.Commit handed reads) told was is = committed_is session own told was
 behind_is session own (event.Abort handed) told was is = tt
 behind_is session own event.Oldest told was is = was

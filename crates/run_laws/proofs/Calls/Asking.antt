@@ -118,7 +118,7 @@ asks : (shape : Shape) (own : Option OwnTransaction) (handed : Option ReadSet) (
 asks shape own handed session (command.Begin checked) made other = absurd (not_true other)
 asks shape own handed session (command.Get table key) made other = absurd (not_true other)
 asks shape own handed session (command.Scan table) made other = reads asks_nothing shape own table (λ t is block. refl)
-asks shape own handed session (command.Range table low high) made other = reads asks_nothing shape own table (λ t is block. refl)
+asks shape own handed session (command.Range table low high) made other = absurd (not_true other)
 asks shape own handed session (command.Total table column low high) made other = reads asks_nothing shape own table (λ t is block. refl)
 asks shape own handed session (command.Insert table row) made other = absurd (not_true other)
 asks shape own handed session (command.Update table row) made other = absurd (not_true other)
@@ -177,8 +177,9 @@ stand shape (Some t) handed session (command.Get table key) made same =
     and_from (t.session == session) true (test_same t.session session same) refl
 stand shape own handed session (command.Scan table) made same =
     reads (is_of session) shape own table (λ t is block. owned session own t same is)
-stand shape own handed session (command.Range table low high) made same =
-    reads (is_of session) shape own table (λ t is block. owned session own t same is)
+stand shape None handed session (command.Range table low high) made same = refl
+stand shape (Some t) handed session (command.Range table low high) made same =
+    and_from (t.session == session) true (test_same t.session session same) refl
 stand shape own handed session (command.Total table column low high) made same =
     reads (is_of session) shape own table (λ t is block. owned session own t same is)
 stand shape None handed session (command.Insert table row) made same = refl

@@ -1,26 +1,28 @@
 -- A session's line, command by command.
-use Rattle.std.proofs.Common.{◌≡◌, ◌⊎◌, ℕ, ℤ, Bool, true, false, not, ◌&&◌, ◌||◌, List, [], ◌∷◌, ◌++◌, map, Option, None, Some, option_map, refl, sym, ap, ◌∙◌, subst}
+use Rattle.std.proofs.Common.{◌≡◌, ◌⊎◌, ℕ, ℤ, Bool, true, false, not, ◌&&◌, ◌||◌, List, [], ◌∷◌, ◌++◌, map, Option, None, Some, option_map, refl, sym, ap, ◌∙◌, subst, append-nil}
 use mathlib.Core.Logic.{inl, inr}
 use Rattle.std.specs.Prelude.{IfSome, IsSome, IsSomeAnd, option_and_then, option_to_list}
-use Rattle.std.specs.List.{last_or, list_all}
+use Rattle.std.specs.List.{flat_map, last_or, list_all, list_any}
 use Rattle.std.proofs.lemmas.List.Folds.{list_all-append}
 use Rattle.core_laws.specs.Events.Laws.{IsStep, IsTold, command_in, outcome_of}
 use Rattle.event_spec.specs.declared.event.Event.TheVariants as event
 use Rattle.event_spec.specs.declared.own.OwnTransaction.{OwnTransaction}
+use Rattle.block_spec.specs.Slots.{Row}
 use Rattle.event_spec.specs.declared.reply.Reply.TheVariants as reply
+use Rattle.event_spec.specs.declared.reply.WriteFault.TheVariants as refusal
 use Rattle.event_spec.specs.Effects.{CoreEvent}
 use Rattle.event_spec.specs.Lawful.{reads_handed}
 use Rattle.event_spec.specs.Parts.{Shape}
 use Rattle.event_spec.specs.Replies.{CoreReply}
 use Rattle.isolation_laws.proofs.Checked.{commit-stands, stale-closed}
 use Rattle.isolation_spec.specs.Checked.{step_with}
-use Rattle.isolation_spec.specs.Contents.{key_of}
+use Rattle.isolation_spec.specs.Contents.{contents_between, key_of}
 use Rattle.isolation_spec.specs.declared.command.Act.{Act}
 use Rattle.isolation_spec.specs.declared.command.Act.TheVariants as act
 use Rattle.isolation_spec.specs.declared.command.Answer.{Answer}
 use Rattle.isolation_spec.specs.declared.command.Answer.TheVariants as answer
 use Rattle.isolation_spec.specs.declared.command.Command.{Command as Request}
-use Rattle.isolation_spec.specs.Machine.{IsolationMachine, Transaction, step, step_of, transaction_of}
+use Rattle.isolation_spec.specs.Machine.{IsolationMachine, Transaction, seen_rows, step, step_of, transaction_of}
 use Rattle.isolation_spec.specs.Reads.{ReadSet}
 use Rattle.isolation_spec.specs.Store.{Allows, Outcome, Answered, Freezing, Full, Memory, IsChange, IsInsert, IsRead}
 use Rattle.timeline_spec.specs.Timeline.{Answers, request_of, said_of}
@@ -33,7 +35,7 @@ use Rattle.run_spec.specs.Asked.{events_of, imaged_block, parts_before, thaws}
 use Rattle.run_spec.specs.Calls.{IsCallBy, IsPart, is_cut_short, is_final, is_memory, is_refused}
 use Rattle.run_spec.specs.Occurrences.{Occurrence, events_in, replies_in}
 use Rattle.run_spec.specs.Opened.{own_key}
-use Rattle.run_spec.specs.Told.{last_told, refusal_of, told_by}
+use Rattle.run_spec.specs.Told.{in_key_order, last_told, refusal_of, rows_told, told_by}
 use Rattle.run_laws.specs.Calls.Coming.{EndsAt, LinesComeAbout, is_single}
 use Rattle.run_laws.specs.Calls.Open.{OpenAs}
 use Rattle.run_laws.proofs.Calls.Lines.{lines_tell}
@@ -116,6 +118,7 @@ is_calm (event.Insert own table row) = true
 is_calm (event.Update own table row) = true
 is_calm (event.Delete own table key) = true
 is_calm (event.Read own table block) = true
+is_calm (event.Range own table low high) = true
 is_calm (event.Commit own reads) = false
 is_calm (event.Abort own) = false
 is_calm event.Oldest = true
@@ -138,6 +141,18 @@ get_stays m n session table key (Answered answered) h = go (transaction_of sessi
 get_stays m n session table key Freezing h = h.2
 get_stays m n session table key Full h = h.2
 get_stays m n session table key Memory h = h.2
+
+-- So does a range.
+range_stays : (m n : IsolationMachine) (session table : ℕ) (low high : ℤ) (outcome : Outcome)
+    → Allows m None (asked session (act.Range table low high)) outcome n → n ≡ m
+range_stays m n session table low high (Answered answered) h = go (transaction_of session m) h
+  where
+    go : (o : Option Transaction) → step_of m (asked session (act.Range table low high)) o ≡ (answered, n) → n ≡ m
+    go None e = ap (λ (p : Answer × IsolationMachine). p.1) (sym e)
+    go (Some t) e = ap (λ (p : Answer × IsolationMachine). p.1) (sym e)
+range_stays m n session table low high Freezing h = h.2
+range_stays m n session table low high Full h = h.2
+range_stays m n session table low high Memory h = h.2
 
 -- A reply that is tested as want of memory is want of memory.
 memory_is : (told : CoreReply) → is_memory told ≡ true → told ≡ reply.Memory
@@ -164,7 +179,7 @@ event_stays m n (event.Begin session) told calm cut h = absurd (not_true calm)
 event_stays m n (event.Get own table key) told calm cut h =
     let allowed = some_and
     (λ outcome. Allows m None (asked own.session (act.Get table key)) outcome n)
-    (outcome_of told)
+    (outcome_of (act.Get table key) told)
     h in
     get_stays m n own.session table key allowed.0 allowed.2
 event_stays m n (event.Insert own table row) told calm cut h =
@@ -174,6 +189,12 @@ event_stays m n (event.Update own table row) told calm cut h =
 event_stays m n (event.Delete own table key) told calm cut h =
     refused_stays m n (asked own.session (act.Delete table key)) told cut h
 event_stays m n (event.Read own table block) told calm cut h = h
+event_stays m n (event.Range own table low high) told calm cut h =
+    let allowed = some_and
+    (λ outcome. Allows m None (asked own.session (act.Range table low high)) outcome n)
+    (outcome_of (act.Range table low high) told)
+    h in
+    range_stays m n own.session table low high allowed.0 allowed.2
 event_stays m n (event.Commit own reads) told calm cut h = absurd (not_true calm)
 event_stays m n (event.Abort own) told calm cut h = absurd (not_true calm)
 event_stays m n event.Oldest told calm cut h = h
@@ -264,6 +285,74 @@ allows_as m n handed reads request Freezing same h = h
 allows_as m n handed reads request Full same h = h
 allows_as m n handed reads request Memory same h = h
 
+-- Rows that are answered alike are the same.
+pub same_rows : (xs ys : List Row) → answer.Rows xs ≡ answer.Rows ys → xs ≡ ys
+same_rows xs ys e = cc
+
+-- A range of an open transaction is answered with its rows, and the machine stays.
+pub range_answered : (m n : IsolationMachine) (session table : ℕ) (low high : ℤ) (t : Transaction) → transaction_of session m ≡ Some t → (said : Answer)
+    → step_with m None (asked session (act.Range table low high)) ≡ (said, n)
+    → (answer.Rows (contents_between table low high (seen_rows m t)) ≡ said) × (n ≡ m)
+range_answered m n session table low high t is said h =
+    let both = ap (step_of m (asked session (act.Range table low high))) (sym is) ∙ h in
+    (ap (λ (p : Answer × IsolationMachine). p.0) both, sym (ap (λ (p : Answer × IsolationMachine). p.1) both))
+
+-- What a range was replied, in the order of the keys, are the rows that the machine answers, which
+-- stays.
+record Ranged (m n : IsolationMachine) (t : Transaction) (table : ℕ) (low high : ℤ) (told : CoreReply) : Type 0 where
+  rows : in_key_order table (rows_told told) ≡ contents_between table low high (seen_rows m t)
+  stays : n ≡ m
+
+-- So it is where it was not refused memory.
+range_told : (m n : IsolationMachine) (session table : ℕ) (low high : ℤ) (t : Transaction) → transaction_of session m ≡ Some t
+    → (told : CoreReply) → is_memory told ≡ false → IsTold m None (asked session (act.Range table low high)) told n
+    → Ranged m n t table low high told
+range_told m n session table low high t is (reply.Begun snapshot) granted h =
+    absurd (let never : ⊥ = cc ((range_answered m n session table low high t is (answer.At snapshot.number) h).0) in never)
+range_told m n session table low high t is (reply.Found row) granted h =
+    absurd (let never : ⊥ = cc ((range_answered m n session table low high t is (answer.Found row) h).0) in never)
+range_told m n session table low high t is (reply.Written place) granted h =
+    absurd (let never : ⊥ = cc ((range_answered m n session table low high t is answer.Accepted h).0) in never)
+range_told m n session table low high t is (reply.Refused (refusal.ConflictSession other)) granted h =
+    absurd (let never : ⊥ = cc ((range_answered m n session table low high t is (answer.ConflictSession other) h).0) in never)
+range_told m n session table low high t is (reply.Refused (refusal.ConflictCommit number)) granted h =
+    absurd (let never : ⊥ = cc ((range_answered m n session table low high t is (answer.ConflictCommit number) h).0) in never)
+range_told m n session table low high t is (reply.Refused refusal.Exists) granted h =
+    absurd (let never : ⊥ = cc ((range_answered m n session table low high t is answer.Exists h).0) in never)
+range_told m n session table low high t is (reply.Refused refusal.Missing) granted h =
+    absurd (let never : ⊥ = cc ((range_answered m n session table low high t is answer.Missing h).0) in never)
+range_told m n session table low high t is (reply.Refused (refusal.Freezing block stamp)) granted h = absurd h.0
+range_told m n session table low high t is (reply.Refused (refusal.Full inserts)) granted h = absurd h.0
+range_told m n session table low high t is (reply.Rows rows) granted h =
+    let answered = range_answered m n session table low high t is (answer.Rows (in_key_order table rows)) h in
+    record { rows = sym (same_rows _ _ answered.0); stays = answered.1 }
+range_told m n session table low high t is (reply.Shared rows) granted h = absurd h
+range_told m n session table low high t is (reply.Committed number) granted h =
+    absurd (let never : ⊥ = cc ((range_answered m n session table low high t is (answer.Committed number) h).0) in never)
+range_told m n session table low high t is (reply.Stale what number) granted h =
+    absurd (let never : ⊥ = cc ((range_answered m n session table low high t is (answer.Stale what number) h).0) in never)
+range_told m n session table low high t is reply.Aborted granted h =
+    absurd (let never : ⊥ = cc ((range_answered m n session table low high t is answer.Aborted h).0) in never)
+range_told m n session table low high t is (reply.Oldest oldest) granted h = absurd h
+range_told m n session table low high t is (reply.Turned turned) granted h = absurd h
+range_told m n session table low high t is (reply.Dropped count) granted h = absurd h
+range_told m n session table low high t is (reply.Looked look) granted h = absurd h
+range_told m n session table low high t is (reply.Moved count) granted h = absurd h
+range_told m n session table low high t is (reply.Sealed stamp) granted h = absurd h
+range_told m n session table low high t is (reply.NotSealed because) granted h = absurd h
+range_told m n session table low high t is (reply.Imaged rows) granted h = absurd h
+range_told m n session table low high t is reply.NoSeal granted h = absurd h
+range_told m n session table low high t is reply.Thawed granted h = absurd h
+range_told m n session table low high t is reply.Memory granted h = absurd (not_true (sym granted))
+
+-- An event alone that was not refused memory.
+one_granted : (x : Occurrence) → list_any is_refused (x ∷ []) ≡ false → is_memory x.reply ≡ false
+one_granted x e = go (is_memory x.reply) e
+  where
+    go : (b : Bool) → (b || false) ≡ false → b ≡ false
+    go true e = absurd (not_true (sym e))
+    go false e = refl
+
 -- To the machine it is all one whether a transaction that begins is checked.
 begins_alike : (m : IsolationMachine) (session : ℕ) (checked : Bool)
     → step m (asked session (act.Begin false)) ≡ step m (asked session (act.Begin checked))
@@ -303,10 +392,10 @@ module _ (session : ℕ) (made : List Occurrence) (told : Option Said) (reads : 
       subst (λ (x : CoreEvent). IsStep (command_in x) (reads_handed x) m at.last.reply n) at.is at.stepped in
       let stepped : IsTold m (reads_handed e) (asked session what) at.last.reply n =
       subst (λ (o : Option Request). IsStep o (reads_handed e) m at.last.reply n) asks handed in
-      let allowed = some_and (λ outcome. Allows m (reads_handed e) (asked session what) outcome n) (outcome_of at.last.reply) stepped in
+      let allowed = some_and (λ outcome. Allows m (reads_handed e) (asked session what) outcome n) (outcome_of what at.last.reply) stepped in
       record {
         outcome = allowed.0;
-        tells = lines_tell table 0 at.last.reply allowed.0 line allowed.1
+        tells = lines_tell what table 0 at.last.reply allowed.0 line allowed.1
             (sym (ap (option_and_then (told_by table 0)) at.replied) ∙ sym says ∙ tells);
         allows = allows_as m n (reads_handed e) reads (asked session what) allowed.0 alike allowed.2;
       }
@@ -321,6 +410,38 @@ module _ (session : ℕ) (made : List Occurrence) (told : Option Said) (reads : 
         tells = same_line line said.Memory (sym tells ∙ says);
         allows = (may, subst (λ (o : Option Transaction). IsSome o) (sym t.1) refl, stays);
       }
+
+  -- a range that was carried out
+  ranged : (table : ℕ) (low high : ℤ) (own : OwnTransaction) → OpenAs session (Some own) (transaction_of session m)
+      → events_in made ≡ event.Range own table low high ∷ [] → list_any is_refused made ≡ false
+      → told ≡ Some (said.Scanned (in_key_order table (flat_map rows_told (replies_in made))))
+      → Answers m reads (asked session (act.Range table low high)) line n
+  ranged table low high own open' events granted says = go made refl
+    where
+      e : CoreEvent
+      e = event.Range own table low high
+
+      go : (xs : List Occurrence) → made ≡ xs → Answers m reads (asked session (act.Range table low high)) line n
+      go [] is = absurd (no_first e [] (sym (ap events_in is) ∙ events))
+      go (x ∷ y ∷ rest) is = absurd (no_second y.event (events_in rest) (tails x.event e (y.event ∷ events_in rest) [] (sym (ap events_in is) ∙ events)))
+      go (x ∷ []) is =
+          let t = one_open session m own open' in
+          let event_is : x.event ≡ e = heads x.event e [] [] (sym (ap events_in is) ∙ events) in
+          let stepped : IsStep (command_in x.event) (reads_handed x.event) m x.reply n = subst (λ (xs : List Occurrence). EndsAt xs m n) is ends in
+          let handed : IsTold m None (asked own.session (act.Range table low high)) x.reply n =
+          subst (λ (f : CoreEvent). IsStep (command_in f) (reads_handed f) m x.reply n) event_is stepped in
+          let asks : IsTold m None (asked session (act.Range table low high)) x.reply n =
+          subst (λ q. IsTold m None (asked q (act.Range table low high)) x.reply n) open'.session_is handed in
+          let answered = range_told m n session table low high t.0 t.1 x.reply (one_granted x (sym (ap (list_any is_refused) is) ∙ granted)) asks in
+          record {
+            outcome = Answered (answer.Rows (contents_between table low high (seen_rows m t.0)));
+            tells = same_line line (said.Scanned (in_key_order table (flat_map rows_told (replies_in made)))) (sym tells ∙ says)
+                ∙ ap (λ (xs : List Occurrence). said.Scanned (in_key_order table (flat_map rows_told (replies_in xs)))) is
+                ∙ ap (λ (rows : List Row). said.Scanned (in_key_order table rows)) (append-nil (rows_told x.reply))
+                ∙ ap said.Scanned answered.rows;
+            allows = ap (step_of m (asked session (act.Range table low high))) t.1
+                ∙ ap (λ after. (answer.Rows (contents_between table low high (seen_rows m t.0)), after)) (sym answered.stays);
+          }
 
   -- Where nothing is open, the machine answers too that there is no transaction.
   without_one : (what : Act) → OpenAs session None (transaction_of session m)
@@ -372,6 +493,11 @@ module _ (session : ℕ) (made : List Occurrence) (told : Option Said) (reads : 
       w.line
   line_taken shape (command.Get table key) (Some own) single open' (inr p) =
       cut_at shape (act.Get table key) own (command.Get table key) open' (inl tt) refl p
+  line_taken shape (command.Range table low high) None single open' h = without_one (act.Range table low high) open' h refl
+  line_taken shape (command.Range table low high) (Some own) single open' (inl w) =
+      ranged table low high own open' w.events w.granted w.line
+  line_taken shape (command.Range table low high) (Some own) single open' (inr p) =
+      cut_at shape (act.Range table low high) own (command.Range table low high) open' (inl tt) refl p
   line_taken shape (command.Insert table row) None single open' h = without_one (act.Insert table row) open' h refl
   line_taken shape (command.Insert table row) (Some own) single open' (inl w) = whole
       (act.Insert table row)
@@ -439,7 +565,6 @@ module _ (session : ℕ) (made : List Occurrence) (told : Option Said) (reads : 
       whole act.Abort 0 [] (event.Abort own) (asks_as own act.Abort open'.session_is) refl w.events w.line
   line_taken shape command.Abort (Some own) single open' (inr p) = absurd (not_true p.may)
   line_taken shape (command.Scan table) own single open' h = absurd (not_true single)
-  line_taken shape (command.Range table low high) own single open' h = absurd (not_true single)
   line_taken shape (command.Total table column low high) own single open' h = absurd (not_true single)
   line_taken shape command.Observe own single open' h = absurd (not_true single)
   line_taken shape command.Prune own single open' h = absurd (not_true single)

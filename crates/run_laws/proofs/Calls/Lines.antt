@@ -39,30 +39,30 @@ tells_of here meant tells outcome line o l = subst
 
 -- what a reply says by itself tells its outcome
 pub lines_tell : LinesTellOutcomes
-lines_tell table block (reply.Begun snapshot) outcome line o l =
+lines_tell asked table block (reply.Begun snapshot) outcome line o l =
     tells_of (store.Answered (answer.At snapshot.number)) (said.At snapshot.number) refl outcome line o l
-lines_tell table block (reply.Found row) outcome line o l =
+lines_tell asked table block (reply.Found row) outcome line o l =
     tells_of (store.Answered (answer.Found row)) (row_told row) (row_tells row) outcome line o l
-lines_tell table block (reply.Written place) outcome line o l =
+lines_tell asked table block (reply.Written place) outcome line o l =
     tells_of (store.Answered answer.Accepted) said.Accepted refl outcome line o l
-lines_tell table block (reply.Refused refused) outcome line o l =
+lines_tell asked table block (reply.Refused refused) outcome line o l =
     tells_of (outcome_of_fault refused) (fault_told table refused) (fault_tells table refused) outcome line o l
-lines_tell table block (reply.Rows rows) outcome line o l = absurd (none-some outcome o)
-lines_tell table block (reply.Shared rows) outcome line o l = absurd (none-some outcome o)
-lines_tell table block (reply.Stale what number) outcome line o l =
+lines_tell asked table block (reply.Rows rows) outcome line o l = absurd (none-some line l)
+lines_tell asked table block (reply.Shared rows) outcome line o l = absurd (none-some outcome o)
+lines_tell asked table block (reply.Stale what number) outcome line o l =
     tells_of (store.Answered (answer.Stale what number)) (said.Stale (stale_of what) number) refl outcome line o l
-lines_tell table block (reply.Committed number) outcome line o l =
+lines_tell asked table block (reply.Committed number) outcome line o l =
     tells_of (store.Answered (answer.Committed number)) (said.Committed number) refl outcome line o l
-lines_tell table block reply.Aborted outcome line o l =
+lines_tell asked table block reply.Aborted outcome line o l =
     tells_of (store.Answered answer.Aborted) said.Aborted refl outcome line o l
-lines_tell table block (reply.Oldest oldest) outcome line o l = absurd (none-some outcome o)
-lines_tell table block (reply.Turned turned) outcome line o l = absurd (none-some outcome o)
-lines_tell table block (reply.Dropped count) outcome line o l = absurd (none-some outcome o)
-lines_tell table block (reply.Looked look) outcome line o l = absurd (none-some outcome o)
-lines_tell table block (reply.Moved count) outcome line o l = absurd (none-some outcome o)
-lines_tell table block (reply.Sealed stamp) outcome line o l = absurd (none-some outcome o)
-lines_tell table block (reply.NotSealed because) outcome line o l = absurd (none-some outcome o)
-lines_tell table block (reply.Imaged rows) outcome line o l = absurd (none-some outcome o)
-lines_tell table block reply.NoSeal outcome line o l = absurd (none-some outcome o)
-lines_tell table block reply.Thawed outcome line o l = absurd (none-some outcome o)
-lines_tell table block reply.Memory outcome line o l = tells_of store.Memory said.Memory refl outcome line o l
+lines_tell asked table block (reply.Oldest oldest) outcome line o l = absurd (none-some outcome o)
+lines_tell asked table block (reply.Turned turned) outcome line o l = absurd (none-some outcome o)
+lines_tell asked table block (reply.Dropped count) outcome line o l = absurd (none-some outcome o)
+lines_tell asked table block (reply.Looked look) outcome line o l = absurd (none-some outcome o)
+lines_tell asked table block (reply.Moved count) outcome line o l = absurd (none-some outcome o)
+lines_tell asked table block (reply.Sealed stamp) outcome line o l = absurd (none-some outcome o)
+lines_tell asked table block (reply.NotSealed because) outcome line o l = absurd (none-some outcome o)
+lines_tell asked table block (reply.Imaged rows) outcome line o l = absurd (none-some outcome o)
+lines_tell asked table block reply.NoSeal outcome line o l = absurd (none-some outcome o)
+lines_tell asked table block reply.Thawed outcome line o l = absurd (none-some outcome o)
+lines_tell asked table block reply.Memory outcome line o l = tells_of store.Memory said.Memory refl outcome line o l

@@ -121,7 +121,7 @@ some_and P (Some x) h = (x, h)
 told_plain : (m next : IsolationMachine) (q : ℕ) (what : Act) (told : CoreReply) (r : ℕ) → is_plain what ≡ true
     → IsTold m None (asked q what) told next → snapshot_in r next ≡ snapshot_in r m
 told_plain m next q what told r plain h =
-    let allowed = some_and (λ outcome. Allows m None (asked q what) outcome next) (outcome_of told) h in
+    let allowed = some_and (λ outcome. Allows m None (asked q what) outcome next) (outcome_of what told) h in
     allows_plain m next q what allowed.0 r plain allowed.1
 
 -- ---- a begin, and an end
@@ -363,6 +363,14 @@ module _ (shape : Shape) (parts : Parts) (q : ℕ) (m next : IsolationMachine) w
       (λ r. told_plain m next handed.session (act.Delete table key) (told_to (event.Delete handed table key) refused) r refl h)
   event_keeps (event.Read handed table block) refused same h =
       aside q (event.Read handed table block) (told_to (event.Read handed table block) refused) m next (λ own. refl) h
+  event_keeps (event.Range handed table low high) refused same h = still
+      q
+      (event.Range handed table low high)
+      (told_to (event.Range handed table low high) refused)
+      m
+      next
+      (λ own. refl)
+      (λ r. told_plain m next handed.session (act.Range table low high) (told_to (event.Range handed table low high) refused) r refl h)
   event_keeps (event.Commit handed reads) refused same h = commit_keeps handed reads refused same h
   event_keeps (event.Abort handed) refused same h = abort_keeps handed refused same h
   event_keeps event.Oldest refused same h =

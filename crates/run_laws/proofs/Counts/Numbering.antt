@@ -66,6 +66,7 @@ module _ (sh : Shape) (s : Parts) where
   event_narrow (event.Update own u row) lawful is = subst IsNarrow (sym (change_desk own u (λ old. change.Patch (differences 0 old row)) (change_judged sh s own u (key_of row)) (desk_at sh s))) is
   event_narrow (event.Delete own u key) lawful is = subst IsNarrow (sym (change_desk own u (λ old. change.Gone) (change_judged sh s own u key) (desk_at sh s))) is
   event_narrow (event.Read own u c) lawful is = is
+  event_narrow (event.Range own u low high) lawful is = is
   event_narrow (event.Commit own reads) lawful is = judged_narrow own (stale_in sh s own reads) (desk_at sh s) lawful.1.0 is
   event_narrow (event.Abort own) lawful is = record { commits = is.commits; stamps = is.stamps }
   event_narrow event.Oldest lawful is = is

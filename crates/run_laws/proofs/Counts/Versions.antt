@@ -547,6 +547,7 @@ module _ (sh : Shape) (s : Parts) (ok : Sound sh s) where
   event_stamps (event.Delete own u key) lawful = quietly (event.Delete own u key)
       (write_stamped (changes_of sh s (event.Delete own u key)) (change_judged sh s own u key) (change_fewer is_stamped 0 own u (λ old. change.Gone) (change_judged sh s own u key) (put_stamped own.session))) refl
   event_stamps (event.Read own u c) lawful = quietly (event.Read own u c) (fewer is_stamped nothing (λ t b has. omega arith)) refl
+  event_stamps (event.Range own u low high) lawful = quietly (event.Range own u low high) (fewer is_stamped nothing (λ t b has. omega arith)) refl
   event_stamps (event.Commit own reads) lawful = judged_stamps own (stale_in sh s own reads)
   event_stamps (event.Abort own) lawful = quietly (event.Abort own) (fewer is_stamped (changes_of sh s (event.Abort own)) (λ t b has. abort_kept is_stamped own.session (body_at sh s t b))) refl
   event_stamps event.Oldest lawful = quietly event.Oldest (fewer is_stamped nothing (λ t b has. omega arith)) refl
@@ -611,6 +612,7 @@ module _ (sh : Shape) (s : Parts) (ok : Sound sh s) where
     event_owns (event.Delete own u key) lawful = write_own own.session (changes_of sh s (event.Delete own u key)) (change_judged sh s own u key)
         (change_fewer (is_of r) (one (own.session == r)) own u (λ old. change.Gone) (change_judged sh s own u key) (put_own own.session))
     event_owns (event.Read own u c) lawful = fewer (is_of r) nothing (λ t b has. omega arith)
+    event_owns (event.Range own u low high) lawful = fewer (is_of r) nothing (λ t b has. omega arith)
     event_owns (event.Commit own reads) lawful = judged_owns own (stale_in sh s own reads)
     event_owns (event.Abort own) lawful = fewer (is_of r) (changes_of sh s (event.Abort own)) (λ t b has. abort_kept (is_of r) own.session (body_at sh s t b))
     event_owns event.Oldest lawful = fewer (is_of r) nothing (λ t b has. omega arith)
@@ -633,6 +635,7 @@ versions_are_counted sh s made ok lawful = go made.refused
     memory_drops (event.Update own u row) = refl
     memory_drops (event.Delete own u key) = refl
     memory_drops (event.Read own u c) = refl
+    memory_drops (event.Range own u low high) = refl
     memory_drops (event.Commit own reads) = refl
     memory_drops (event.Abort own) = refl
     memory_drops event.Oldest = refl

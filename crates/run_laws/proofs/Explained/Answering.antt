@@ -408,6 +408,7 @@ module _ (script : Script) (few_seats : script.sessions + script.workers < 2 ^ 3
       (λ line may. inl may) refl h.1 (delete_small script parts at held.follows held.ok.sessions own.session table key) step
       (λ b g is. sealed_small few table key b g (((freezes_exactly (shape_of script) parts own table at b g is_shape held.ok held.follows).1 key lawful).0 (ap reply_to_write is)).1))
   event_stands is_shape few (event.Read own table block) refused made asked told lawful memory step h q keys = absurd (true_false q)
+  event_stands is_shape few (event.Range own table low high) refused made asked told lawful memory step h q keys = absurd (true_false q)
   event_stands is_shape few (event.Commit own reads) true made asked told lawful memory step h q keys = absurd (true_false (sym (memory refl)))
   event_stands is_shape few (event.Commit own reads) false made asked told lawful memory step h q keys =
       subst (λ a. Stands a told) (sym h.0) (commit_stands own reads told (stale_in (shape_of script) parts own reads) (keys h.0) h.1 step)

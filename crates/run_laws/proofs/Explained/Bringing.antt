@@ -81,6 +81,7 @@ dropped_so (event.Insert own table row) r = refl
 dropped_so (event.Update own table row) r = refl
 dropped_so (event.Delete own table key) r = refl
 dropped_so (event.Read own table block) r = refl
+dropped_so (event.Range own table low high) r = refl
 dropped_so (event.Commit own reads) r = refl
 dropped_so (event.Abort own) r = refl
 dropped_so event.Oldest r = refl
@@ -256,6 +257,7 @@ record Quiet (sh : Shape) (parts : Parts) (e : CoreEvent) (r : CoreReply) : Type
 quiet_is : (sh : Shape) (parts : Parts) (e : CoreEvent) (r : CoreReply) → is_quiet e ≡ true → Quiet sh parts e r
 quiet_is sh parts (event.Get own table key) r q = record { stamps = refl; writes = λ q. refl; own = λ o. refl }
 quiet_is sh parts (event.Read own table block) r q = record { stamps = refl; writes = λ q. refl; own = λ o. refl }
+quiet_is sh parts (event.Range own table low high) r q = record { stamps = refl; writes = λ q. refl; own = λ o. refl }
 quiet_is sh parts event.Oldest r q = record { stamps = refl; writes = λ q. refl; own = λ o. refl }
 quiet_is sh parts (event.Observe table block) r q = record { stamps = refl; writes = λ q. refl; own = λ o. refl }
 quiet_is sh parts (event.Prune table block oldest) r q = record { stamps = refl; writes = λ q. refl; own = λ o. refl }
@@ -296,6 +298,7 @@ other_writes (event.Update own table row) r seat q named ne = if_other own.sessi
 other_writes (event.Delete own table key) r seat q named ne = if_other own.session q (writes_told r) (λ e. ne (sym named ∙ e))
 other_writes (event.Get own table key) r seat q named ne = refl
 other_writes (event.Read own table block) r seat q named ne = refl
+other_writes (event.Range own table low high) r seat q named ne = refl
 other_writes event.Oldest r seat q named ne = refl
 other_writes (event.Observe table block) r seat q named ne = refl
 other_writes (event.Prune table block oldest) r seat q named ne = refl
@@ -643,6 +646,7 @@ module _ (script : Script) (parts : Parts) (front : List Occurrence) (lines : Li
       (λ some. mine_write script parts front lines seat (event.Delete own table key) (cond refused reply.Memory (reply_to (shape_of script) parts (event.Delete own table key))) low kept printed told asked made is_shown whose
       table own.session refused (change_judged (shape_of script) parts own table key) h.1 (ap (λ c. is_some (write_of c)) h.0) (a_session (ap is_upkeep h.0)) (still_some _ (own_after (under seat front)) some))
   brings_end (event.Read own table block) refused named memory h all_told = quiet_ending (event.Read own table block) refused refl named h all_told
+  brings_end (event.Range own table low high) refused named memory h all_told = quiet_ending (event.Range own table low high) refused refl named h all_told
   brings_end (event.Commit own reads) true named memory h all_told = absurd (true_false (sym (memory refl)))
   brings_end (event.Commit own reads) false named memory h all_told = commit_ending own reads named (stale_in (shape_of script) parts own reads) h.1
   brings_end (event.Abort own) refused named memory h all_told = reply_ending (event.Abort own) refused 0 0 named h.1 refl (λ some. absurd (true_false (sym some)))

@@ -376,6 +376,7 @@ module _ (script : Script) (parts : Parts) (front : List Occurrence) (at next : 
           (subst (λ r. IsStep (command_in (event.Delete own table key)) (reads_handed (event.Delete own table key)) at (reply_to_write r) next) is
           (subst (λ x. IsStep (command_in (event.Delete own table key)) (reads_handed (event.Delete own table key)) at (cond x reply.Memory (reply_to (shape_of script) parts (event.Delete own table key))) next) granted step)).0
   event_says (event.Read own table block) refused made asked told lawful step counts h = quiet_says asked made told counts h
+  event_says (event.Range own table low high) refused made asked told lawful step counts h = quiet_says asked made told counts h
   event_says (event.Commit own reads) true made asked told lawful step counts h = says_plain asked told said.Memory (h.1 ∙ not_silent (is_worker who) said.Memory refl) refl
   event_says (event.Commit own reads) false made asked told lawful step counts h = commit_says own asked told (stale_in (shape_of script) parts own reads) h.1
   event_says (event.Abort own) true made asked told lawful step counts h = says_plain asked told said.Memory (h.1 ∙ not_silent (is_worker who) said.Memory refl) refl

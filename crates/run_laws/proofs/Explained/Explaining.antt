@@ -1,5 +1,5 @@
 -- A run's text is explained.
-use Rattle.std.proofs.Common.{◌≡◌, ◌⊎◌, ℕ, zero, suc, ◌+◌, ◌*◌, ◌<◌, ◌≤◌, ◌^◌, nat_le, Bool, true, false, cond, ◌&&◌, List, [], ◌∷◌, ◌++◌, length, map, Option, None, Some, refl, sym, ap, ◌∙◌, subst, arith, length-append}
+use Rattle.std.proofs.Common.{◌≡◌, ◌⊎◌, ℕ, zero, suc, ◌+◌, ◌*◌, ◌<◌, ◌≤◌, ◌^◌, nat_le, Bool, true, false, cond, ◌&&◌, ℤ, List, [], ◌∷◌, ◌++◌, length, map, Option, None, Some, refl, sym, ap, ◌∙◌, subst, arith, length-append}
 use mathlib.Core.Logic.{inl, inr}
 use Rattle.std.specs.Prelude.{IfSome, Result, option_and_then}
 use Rattle.std.specs.List.{cons_option, enumerate_from, flat_map, list_all, range_with_len}
@@ -11,7 +11,8 @@ use Rattle.block_spec.specs.Bodies.{seal_fault}
 use Rattle.block_spec.specs.declared.phase.Phase.{Phase}
 use Rattle.block_spec.specs.declared.phase.Phase.TheVariants.{Loose, Sealed, Imaged}
 use Rattle.block_spec.specs.declared.phase.SealFault.{SealFault}
-use Rattle.event_spec.specs.Lawful.{Among, reads_handed}
+use Rattle.core_laws.specs.Events.Laws.{IsStep, command_in}
+use Rattle.event_spec.specs.Lawful.{Among, IsLawful, reads_handed}
 use Rattle.event_spec.specs.declared.event.Event.TheVariants as event
 use Rattle.event_spec.specs.declared.own.OwnTransaction.{OwnTransaction}
 use Rattle.event_spec.specs.declared.reply.Reply.TheVariants as reply
@@ -40,7 +41,7 @@ use Rattle.run_spec.specs.Asked.{at_all_blocks, at_blocks}
 use Rattle.run_spec.specs.Calls.{Call, line_to}
 use Rattle.run_spec.specs.Occurrences.{Logged, Occurrence, occurrence_of, occurrences_from}
 use Rattle.run_spec.specs.Ran.{Ran, RoundRun, Share, shape_of, told_in}
-use Rattle.run_spec.specs.Told.{cause_told, stale_of, told_by}
+use Rattle.run_spec.specs.Told.{cause_told, in_key_order, rows_told, stale_of, told_by}
 use Rattle.run_laws.proofs.Moments.Seats.{either, session_at}
 use Rattle.run_laws.proofs.Moments.Reads.{Reads, ReadsAt, ReadsAreKeys, runs_read}
 use Rattle.run_laws.proofs.Calls.Along.{and_first, and_second, named}
@@ -59,6 +60,7 @@ use Rattle.run_laws.proofs.Moments.Rounds.{each_call, runs_have_moments}
 use Rattle.run_laws.specs.Explained.Timelines.{PruningsFit, RunsAreExplained}
 use Rattle.run_laws.proofs.Explained.Answering.{event_stands}
 use Rattle.run_laws.proofs.Explained.Holding.{Holds, holds_first}
+use Rattle.run_laws.proofs.Explained.Ranging.{range_few}
 use Rattle.run_laws.proofs.Explained.Scripts.{few_tables, head, is_shape, worker_upkeep}
 use Rattle.run_laws.proofs.Explained.Shown.{write_line}
 use Rattle.run_laws.proofs.Explained.Standing.{may_stand}
@@ -153,6 +155,7 @@ module _ (shape : Shape) (parts : Parts) (worker : Bool) (made : List Occurrence
   event_loud (event.Update own table row) refused h = write_loud table refused (change_judged shape parts own table (key_of row)) h.1
   event_loud (event.Delete own table key) refused h = write_loud table refused (change_judged shape parts own table key) h.1
   event_loud (event.Read own table block) refused h = quiet_loud worker asked made told h
+  event_loud (event.Range own table low high) refused h = quiet_loud worker asked made told h
   event_loud (event.Commit own reads) true h = memory_loud h.1
   event_loud (event.Commit own reads) false h = commit_loud own (stale_in shape parts own reads) h.1
   event_loud (event.Abort own) true h = memory_loud h.1
@@ -255,6 +258,17 @@ module _ (script : Script) (valid : is_valid script ≡ true) where
       go (inl low) = (read (ap is_worker (session_at script seat low))).keys
       go (inr high) = absurd (true_false (sym (worker_upkeep script seat call.command high asked) ∙ ap is_upkeep commits))
 
+  -- What a range tells has few rows.
+  range_told_few : (parts : Parts) (front : List Occurrence) (at next : IsolationMachine) (lines : List Entry) → Holds script parts front at lines
+      → (own : OwnTransaction) (table : ℕ) (low high : ℤ) (made : CoreEvent) (refused : Bool) → made ≡ event.Range own table low high → IsLawful (shape_of script) made parts
+      → IsStep (command_in made) (reads_handed made) at (cond refused reply.Memory (reply_to (shape_of script) parts made)) next
+      → length (in_key_order table (rows_told (cond refused reply.Memory (reply_to (shape_of script) parts made)))) < 2 ^ 64
+  range_told_few parts front at next lines held own table low high made refused is lawful step = subst
+      (λ made. length (in_key_order table (rows_told (cond refused reply.Memory (reply_to (shape_of script) parts made)))) < 2 ^ 64)
+      (sym is)
+      (range_few (shape_of script) parts own table low high at next (is_shape script valid) held.ok (subst (λ made. IsLawful (shape_of script) made parts) is lawful) held.follows (few32 table) refused
+      (subst (λ made. IsStep (command_in made) (reads_handed made) at (cond refused reply.Memory (reply_to (shape_of script) parts made)) next) is step))
+
   -- Behind whatever holds in front, each call that ends at these moments answers its due.
   abbrev On : List Moment → Type 0
   On ms = (log : List Logged) (parts : Parts) (front : List Occurrence) (at : IsolationMachine) (lines : List Entry)
@@ -310,6 +324,7 @@ module _ (script : Script) (valid : is_valid script ≡ true) where
                   (handed_keys lines seat line.call entry.made.event ends.asked read
                   (last_hands (shape_of script) (is_worker (who_at script seat)) seat ends.began line.call ends.done (occurrence_of (shape_of script) parts entry) ends.is_call ends.made))
                   said' says;
+              few = λ own table low high is. range_told_few parts front at next.0 lines held own table low high entry.made.event entry.made.refused is lawful.0 next.1;
             }))),
         on log (after (shape_of script) parts entry.made) (front ++ occurrence_of (shape_of script) parts entry ∷ []) next.0 (with_reply lines line.printed)
             (after_held script valid parts front at lines seat low high entry seat_is held lawful.0 lawful.1 here line ends)

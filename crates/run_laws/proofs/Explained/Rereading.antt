@@ -145,6 +145,7 @@ read_leaves : (shape : Shape) (parts : Parts) (e : CoreEvent) → reads_block e 
 read_leaves shape parts (event.Read own table block) e = Rattle.core_laws.proofs.Events.Still.all_stay (Rattle.event_spec.specs.Parts.names shape) parts
 read_leaves shape parts (event.Begin session) e = absurd (true_false (sym e))
 read_leaves shape parts (event.Get own table key) e = absurd (true_false (sym e))
+read_leaves shape parts (event.Range own table low high) e = absurd (true_false (sym e))
 read_leaves shape parts (event.Insert own table row) e = absurd (true_false (sym e))
 read_leaves shape parts (event.Update own table row) e = absurd (true_false (sym e))
 read_leaves shape parts (event.Delete own table key) e = absurd (true_false (sym e))

@@ -1,5 +1,5 @@
 -- What is asked of a workload's sessions and workers, and its tables.
-use Rattle.std.proofs.Common.{◌≡◌, ◌⊎◌, ℕ, zero, suc, ◌<◌, ◌≤◌, ◌^◌, nat_le, nat_lt, min, Bool, true, false, cond, ◌&&◌, ◌==◌, List, [], ◌∷◌, length, Option, None, Some, refl, sym, ap, ◌∙◌, subst, arith, ℤ}
+use Rattle.std.proofs.Common.{◌≡◌, ◌⊎◌, ℕ, zero, suc, ◌<◌, ◌≤◌, ◌^◌, nat_le, nat_lt, min, Bool, true, false, cond, ◌&&◌, ◌==◌, List, [], ◌∷◌, length, Option, None, Some, refl, sym, ap, ◌∙◌, subst, arith}
 use mathlib.Core.Logic.{inl, inr}
 use Rattle.std.specs.Prelude.{◌*◌, ◌/◌, ◌%◌, is_none, option_map, slice_get, unwrap_or}
 use Rattle.std.specs.List.{enumerate_from, flat_map, list_all, range_with_len}
@@ -130,13 +130,6 @@ module _ (script : Script) (valid : is_valid script ≡ true) where
   pub session_asked : (seat : ℕ) (asked : Command) → seat ≤ script.sessions → IsAsked script seat asked → is_command script.tables asked ≡ true
   session_asked seat asked low is = (session_line seat asked low is).0
 
-  -- no session is asked for a range or a total, which no version takes
-  pub not_range : (seat : ℕ) (asked : Command) → seat ≤ script.sessions → IsAsked script seat asked → (table : ℕ) (from to : ℤ) → asked ≡ command.Range table from to → ⊥
-  not_range seat asked low is table from to e = true_false (sym (session_line seat asked low is).1 ∙ ap (takes_command script.version) e)
-
-  pub not_total : (seat : ℕ) (asked : Command) → seat ≤ script.sessions → IsAsked script seat asked → (table column : ℕ) (from to : ℤ) → asked ≡ command.Total table column from to → ⊥
-  not_total seat asked low is table column from to e = true_false (sym (session_line seat asked low is).1 ∙ ap (takes_command script.version) e)
-
   -- ---- tables
 
   -- The tables of a valid script are all as a table has to be.
@@ -253,6 +246,7 @@ module _ (script : Script) (valid : is_valid script ≡ true) where
   event_key seat worker made (event.Delete own table key) told asked line is h =
       and_second (is_table_place script.tables table) (is_key_number key) (ap (is_command script.tables) (sym h.0) ∙ asked_fits seat asked is (ap is_upkeep h.0))
   event_key seat worker made (event.Read own table block) told asked line is h = tt
+  event_key seat worker made (event.Range own table low high) told asked line is h = tt
   event_key seat worker made (event.Commit own reads) told asked line is h = tt
   event_key seat worker made (event.Abort own) told asked line is h = tt
   event_key seat worker made event.Oldest told asked line is h = tt

@@ -238,6 +238,7 @@ module _ (shape : Shape) (parts : Parts) (t b : ℕ) (worker : Bool) (asked : Co
   event_adds (event.Update own table row) refused h = write_adds table refused (change_judged shape parts own table (key_of row)) h.1
   event_adds (event.Delete own table key) refused h = write_adds table refused (change_judged shape parts own table key) h.1
   event_adds (event.Read own table block) refused h = quiet_adds t b asked made told h
+  event_adds (event.Range own table low high) refused h = quiet_adds t b asked made told h
   event_adds (event.Commit own reads) true h = adds_none t b told said.Memory (h.1 ∙ not_silent worker said.Memory refl) refl
   event_adds (event.Commit own reads) false h = commit_adds own (stale_in shape parts own reads) h.1
   event_adds (event.Abort own) true h = adds_none t b told said.Memory (h.1 ∙ not_silent worker said.Memory refl) refl
@@ -275,6 +276,7 @@ module _ (shape : Shape) (parts : Parts) (t b : ℕ) (worker : Bool) (asked : Co
   insert_adds (event.Update own table row) refused h = omega arith
   insert_adds (event.Delete own table key) refused h = omega arith
   insert_adds (event.Read own table block) refused h = omega arith
+  insert_adds (event.Range own table low high) refused h = omega arith
   insert_adds (event.Commit own reads) refused h = omega arith
   insert_adds (event.Abort own) refused h = omega arith
   insert_adds event.Oldest refused h = omega arith
@@ -294,6 +296,7 @@ quiet_none t b (event.Insert own table row) r q = absurd (true_false (sym q))
 quiet_none t b (event.Update own table row) r q = absurd (true_false (sym q))
 quiet_none t b (event.Delete own table key) r q = absurd (true_false (sym q))
 quiet_none t b (event.Read own table block) r q = (refl, refl, refl)
+quiet_none t b (event.Range own table low high) r q = (refl, refl, refl)
 quiet_none t b (event.Commit own reads) r q = absurd (true_false (sym q))
 quiet_none t b (event.Abort own) r q = absurd (true_false (sym q))
 quiet_none t b event.Oldest r q = (refl, refl, refl)

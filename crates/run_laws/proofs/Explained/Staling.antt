@@ -23,7 +23,7 @@ use Rattle.timeline_spec.specs.Timeline.{stale_of as said_of_read}
 use Rattle.workload_spec.specs.Valid.{is_key_number}
 use Rattle.run_laws.proofs.Calls.Commits.{stale_is}
 use Rattle.run_laws.proofs.Explained.Conflicting.{last_is}
-use Rattle.run_laws.proofs.Moments.Reads.{AreKeys, ReadsAreKeys}
+use Rattle.run_laws.proofs.Moments.Reads.{AreKeys, HasEnds, ReadsAreKeys}
 
 -- one that stands between others is among them all
 among_all : (front rest : List Read) (x : Read) → Among x (front ++ x ∷ rest)
@@ -36,12 +36,17 @@ among_all (y ∷ front) rest x = inr (among_all front rest x)
 abbrev HasKeys : Read → Type 0
 HasKeys what = IsStaleRead (said_of_read what)
 
-tables_have : (tables : List ℕ) (ranges : List KeyRange) → ranges ≡ [] → (what : Read)
-    → Among what (map read.Table tables ++ map (λ (range : KeyRange). read.Range range.table range.low range.high) ranges) → HasKeys what
-tables_have [] [] none what among = absurd among
-tables_have [] (range ∷ ranges) none what among = absurd (let never : ⊥ = cc none in never)
-tables_have (table ∷ tables) ranges none what (inl e) = subst HasKeys (sym e) tt
-tables_have (table ∷ tables) ranges none what (inr among) = tables_have tables ranges none what among
+ranges_have : (ranges : List KeyRange) → All HasEnds ranges → (what : Read)
+    → Among what (map (λ (range : KeyRange). read.Range range.table range.low range.high) ranges) → HasKeys what
+ranges_have [] ends what among = absurd among
+ranges_have (range ∷ ranges) ends what (inl e) =
+    let here = All-head HasEnds range ranges ends in subst HasKeys (sym e) (here.low, here.high)
+ranges_have (range ∷ ranges) ends what (inr among) = ranges_have ranges (All-tail HasEnds range ranges ends) what among
+
+tables_have : (tables : List ℕ) (rest : List Read) → ((what : Read) → Among what rest → HasKeys what) → (what : Read) → Among what (map read.Table tables ++ rest) → HasKeys what
+tables_have [] rest others what among = others what among
+tables_have (table ∷ tables) rest others what (inl e) = subst HasKeys (sym e) tt
+tables_have (table ∷ tables) rest others what (inr among) = tables_have tables rest others what among
 
 places_have : (places : List Place) (rest : List Read) → All (λ (place : Place). is_key_number place.key ≡ true) places → ((what : Read) → Among what rest → HasKeys what) → (what : Read)
     → Among what (map (λ (place : Place). read.Key place.table place.key) places ++ rest) → HasKeys what
@@ -54,7 +59,7 @@ places_have (place ∷ places) rest keys others what (inr among) =
 -- each read of a read set with keys of 64 bits has such keys
 reads_have : (set : ReadSet) → AreKeys set → (what : Read) → Among what (reads_in set) → HasKeys what
 reads_have set are what among = places_have set.places (map read.Table set.tables ++ map (λ (range : KeyRange). read.Range range.table range.low range.high) set.ranges) are.keys
-    (tables_have set.tables set.ranges are.ranges) what
+    (tables_have set.tables (map (λ (range : KeyRange). read.Range range.table range.low range.high) set.ranges) (ranges_have set.ranges are.ranges)) what
     (subst (Among what)
     (append_assoc
     (map (λ (place : Place). read.Key place.table place.key) set.places)

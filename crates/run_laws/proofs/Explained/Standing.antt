@@ -1,5 +1,5 @@
 -- What a call that ended tells may stand, or is silent where that may be.
-use Rattle.std.proofs.Common.{◌≡◌, ◌⊎◌, ℕ, zero, suc, ◌+◌, ◌*◌, ◌<◌, ◌≤◌, ◌^◌, Bool, true, false, cond, List, [], ◌∷◌, ◌++◌, length, Option, None, Some, is_some, refl, sym, ap, ◌∙◌, subst, arith, append-nil, length-append}
+use Rattle.std.proofs.Common.{◌≡◌, ◌⊎◌, ℕ, zero, suc, ◌+◌, ◌*◌, ◌<◌, ◌≤◌, ◌^◌, ℤ, Bool, true, false, cond, List, [], ◌∷◌, ◌++◌, length, Option, None, Some, is_some, refl, sym, ap, ◌∙◌, subst, arith, append-nil, length-append}
 use mathlib.Core.Logic.{inl, inr}
 use Rattle.std.specs.Prelude.{count_by, option_and_then, option_to_list, slice_get, sum_by}
 use Rattle.std.specs.List.{flat_map, last_or, list_all}
@@ -14,6 +14,7 @@ use Rattle.std.specs.Option.{option_map_or}
 use Rattle.std.proofs.lemmas.List.FromFn.{length-range_with_len}
 use Rattle.event_spec.specs.Parts.{Parts, Shape, below, blocks_of, slots_of}
 use Rattle.event_spec.specs.Replies.{CoreReply, reply_to}
+use Rattle.isolation_spec.specs.Contents.{numbers_between}
 use Rattle.isolation_spec.specs.Machine.{IsolationMachine}
 use Rattle.isolation_spec.specs.Reads.{ReadSet}
 use Rattle.outcome_spec.specs.Forms.{is_silent, is_worker}
@@ -23,13 +24,13 @@ use Rattle.workload_spec.specs.declared.command.Command.TheVariants as command
 use Rattle.workload_spec.specs.declared.reply.Said.{Said}
 use Rattle.workload_spec.specs.declared.reply.Said.TheVariants as said
 use Rattle.workload_spec.specs.declared.script.Script.{Script}
-use Rattle.workload_spec.specs.Valid.{is_command, is_valid}
+use Rattle.workload_spec.specs.Valid.{is_command, is_total, is_valid}
 use Rattle.run_spec.specs.Asked.{at_all_blocks, at_blocks, events_of}
 use Rattle.run_spec.specs.Calls.{Call, IsCallBy, IsWhole, line_to}
 use Rattle.run_spec.specs.Occurrences.{Occurrence, events_in, replies_in}
 use Rattle.run_spec.specs.Opened.{own_after, own_key}
 use Rattle.run_spec.specs.Ran.{shape_of}
-use Rattle.run_spec.specs.Told.{dropped_told, in_key_order, is_shared, is_turned, line_of, moved_told, refusal_of, rows_told, summary_of, told_by}
+use Rattle.run_spec.specs.Told.{dropped_told, in_key_order, is_shared, is_turned, line_of, moved_told, refusal_of, rows_told, summary_of, told_by, total_told}
 use Rattle.run_laws.specs.Calls.Upkeep.{AreReplied, IsReplied}
 use Rattle.run_laws.specs.Told.Laws.{is_quiet}
 use Rattle.run_laws.proofs.Told.Splits.{are_quiet, heads, loud_of, none_behind, none_some, quiet_of, split_events, tails}
@@ -38,8 +39,9 @@ use Rattle.run_laws.specs.Moments.Moments.{who_at}
 use Rattle.run_laws.proofs.Moments.Seats.{either}
 use Rattle.run_laws.proofs.Explained.Answering.{memory_stands, refusal_stands}
 use Rattle.run_laws.proofs.Explained.Exporting.{count_few, export_low, has_rows, number_low, read_few, read_long, replies_long}
-use Rattle.run_laws.proofs.Explained.Scripts.{is_shape, not_range, not_total, session_asked, worker_upkeep}
-use Rattle.run_laws.proofs.Explained.Taking.{Ended, has_table, scanned, stand}
+use Rattle.run_laws.proofs.Explained.Scripts.{is_shape, session_asked, worker_upkeep}
+use Rattle.run_laws.proofs.Explained.Taking.{Ended, has_table, scanned, stand, total_named}
+use Rattle.run_laws.proofs.Explained.Totals.{numbers_few, sum_small, total_small}
 
 -- What is told as one of two lines and as the other is one line.
 same_line : (a b : Said) → Some a ≡ Some b → a ≡ b
@@ -112,12 +114,13 @@ flat_stands (y ∷ ys) w each =
 
 -- ---- a call that ended
 
--- where its last event, if it is not quiet, may stand
+-- where its last event, if it is not quiet, may stand; a range told few rows
 pub record LastStands (call : Call) (line : Said) : Type 0 where
   pub done : List Occurrence
   pub made : Occurrence
   pub all : call.made ≡ done ++ made ∷ []
   pub may : is_quiet made.event ≡ false → MayStand call.command line
+  pub few : (own : OwnTransaction) (table : ℕ) (low high : ℤ) → made.event ≡ event.Range own table low high → length (in_key_order table (rows_told made.reply)) < 2 ^ 64
 
 module _ (script : Script) (valid : is_valid script ≡ true) (seat : ℕ) (parts : Parts) (front : List Occurrence) (at next : IsolationMachine) (call : Call)
     (ended : Ended script seat parts front at next call)
@@ -141,6 +144,32 @@ module _ (script : Script) (valid : is_valid script ≡ true) (seat : ℕ) (part
           let same : l ≡ h.made.event = init_same (quiet_of (shape_of script) own call.command call.made) (events_in h.done) l h.made.event
           (sym split ∙ ap events_in h.all ∙ events_append h.done (h.made ∷ [])) in
           h.may (ap is_quiet (sym same) ∙ loud_is (shape_of script) own call.reads seat call.command call.made l is)
+
+  -- Reads of all blocks of a table tell few rows.
+  all_few : (t : OwnTransaction) (table : ℕ) → is_some (slice_get script.tables table) ≡ true → events_in call.made ≡ at_blocks (shape_of script) table (event.Read t table)
+      → length (flat_map rows_told (replies_in call.made)) ≤ 2 ^ 47
+  all_few t table has e =
+      let few = flat_stands (replies_in call.made) (slots_of (shape_of script) table) (λ y a. stood y a) in
+      let long = replies_long call.made in
+      let blocks : length (events_in call.made) ≡ blocks_of (shape_of script) table = ap (λ (es : List CoreEvent). length es) e ∙ length-map (below (blocks_of (shape_of script) table)) (event.Read t table) ∙ length-range_with_len 0 (blocks_of (shape_of script) table) in
+      let slots : slots_of (shape_of script) table ≤ 2 ^ 15 = ((is_shape script valid).slots table (has_table script.tables table has)).1 in
+      let most = times_most (length (replies_in call.made)) (slots_of (shape_of script) table) (2 ^ 15) slots in
+      let small = few_blocks table in
+      let narrow : length (replies_in call.made) * 2 ^ 15 ≡ 2 ^ 15 * length (replies_in call.made) = grind arith in
+      omega (arith, few, long, blocks, most, narrow, small)
+    where
+      stood : (y : CoreReply) → Among y (replies_in call.made) → length (rows_told y) ≤ slots_of (shape_of script) table
+      stood y a =
+          let o = map_member (λ (o : Occurrence). o.reply) call.made y a in
+          let b = map_member (event.Read t table) (below (blocks_of (shape_of script) table)) o.0.event
+          (subst (Among o.0.event) e (member_map (λ (o : Occurrence). o.event) call.made o.0 o.1)) in
+          let few = (stand script valid seat parts front at next call ended t table (below (blocks_of (shape_of script) table)) e o.0 o.1 t table b.0 b.2).few in
+          let same = ap (λ r. length (rows_told r)) o.2 in
+          omega (arith, few, same)
+
+  -- what a worker is asked is upkeep
+  no_worker : script.sessions < seat → Rattle.outcome_spec.specs.Forms.is_upkeep call.command ≡ false → ⊥
+  no_worker high is = let never : false ≡ true = sym is ∙ worker_upkeep script seat call.command high ended.asked in let no : ⊥ = cc in no
 
   -- a whole call without one
   at_quiet : (asked : Command) → call.command ≡ asked → (own : Option OwnTransaction) → own_after ended.began ≡ own → refusal_of asked own ≡ None → IsWhole (shape_of script) (is_worker (who_at script seat)) seat own call
@@ -172,46 +201,55 @@ module _ (script : Script) (valid : is_valid script ≡ true) (seat : ℕ) (part
   at_quiet (command.Scan table) is None mine free w none = absurd (let never : ⊥ = cc free in never)
   at_quiet (command.Scan table) is (Some t) mine free w none = go (either script seat)
     where
-      rows : List Rattle.block_spec.specs.Slots.Row
-      rows = in_key_order table (flat_map rows_told (replies_in call.made))
-
       go : (seat ≤ script.sessions) ⊎ (script.sessions < seat) → MayStand (command.Scan table) line
-      go (inr high) = let never : false ≡ true = ap Rattle.outcome_spec.specs.Forms.is_upkeep (sym is) ∙ worker_upkeep script seat call.command high ended.asked in absurd (let no : ⊥ = cc in no)
+      go (inr high) = absurd (no_worker high (ap Rattle.outcome_spec.specs.Forms.is_upkeep is))
       go (inl low) =
           let e : events_in call.made ≡ at_blocks (shape_of script) table (event.Read t table) = w.events ∙ ap (λ c. events_of (shape_of script) (Some t) call.reads seat c call.made) is in
           let has : is_some (slice_get script.tables table) ≡ true = ap (is_command script.tables) (sym is) ∙ session_asked script valid seat call.command low ended.asked in
           let s = scanned script valid seat parts front at next call ended t table mine (ap Rattle.run_laws.specs.Calls.Coming.is_single is) has e w.granted in
-          let few = flat_stands (replies_in call.made) (slots_of (shape_of script) table) (λ y a. stood e y a) in
+          let few = all_few t table has e in
           let count = s.count in
           let same = ap (λ (rs : List Rattle.block_spec.specs.Slots.Row). length rs) s.rows in
-          let long = replies_long call.made in
-          let blocks : length (events_in call.made) ≡ blocks_of (shape_of script) table = ap (λ (es : List CoreEvent). length es) e ∙ length-map (below (blocks_of (shape_of script) table)) (event.Read t table) ∙ length-range_with_len 0 (blocks_of (shape_of script) table) in
-          let slots : slots_of (shape_of script) table ≤ 2 ^ 15 = ((is_shape script valid).slots table (has_table script.tables table has)).1 in
-          let most = times_most (length (replies_in call.made)) (slots_of (shape_of script) table) (2 ^ 15) slots in
-          let small = few_blocks table in
-          let narrow : length (replies_in call.made) * 2 ^ 15 ≡ 2 ^ 15 * length (replies_in call.made) = grind arith in
           subst (MayStand (command.Scan table)) (line_same (is_worker (who_at script seat)) (said.Scanned (in_key_order table (flat_map rows_told (replies_in call.made)))) line call.told refl
           (w.line ∙ ap (λ c. line_to (is_worker (who_at script seat)) (line_of (Some t) c (replies_in call.made))) is) tells)
-          (inl (let w : length (in_key_order table (flat_map rows_told (replies_in call.made))) < 2 ^ 64 = omega (arith, few, count, same, long, blocks, most, narrow, small) in w))
-        where
-          stood : events_in call.made ≡ at_blocks (shape_of script) table (event.Read t table) → (y : CoreReply) → Among y (replies_in call.made) → length (rows_told y) ≤ slots_of (shape_of script) table
-          stood e y a =
-              let o = map_member (λ (o : Occurrence). o.reply) call.made y a in
-              let b = map_member (event.Read t table) (below (blocks_of (shape_of script) table)) o.0.event
-              (subst (Among o.0.event) e (member_map (λ (o : Occurrence). o.event) call.made o.0 o.1)) in
-              let few = (stand script valid seat parts front at next call ended t table (below (blocks_of (shape_of script) table)) e o.0 o.1 t table b.0 b.2).few in
-              let same = ap (λ r. length (rows_told r)) o.2 in
-              omega (arith, few, same)
-  at_quiet (command.Range table low high) is own mine free w none = absurd (no_range (either script seat))
+          (inl (let w : length (in_key_order table (flat_map rows_told (replies_in call.made))) < 2 ^ 64 = omega (arith, few, count, same) in w))
+  at_quiet (command.Range table from to) is None mine free w none = absurd (let never : ⊥ = cc free in never)
+  at_quiet (command.Range table from to) is (Some t) mine free w none = go last
     where
-      no_range : (seat ≤ script.sessions) ⊎ (script.sessions < seat) → ⊥
-      no_range (inl least) = not_range script valid seat call.command least ended.asked table low high is
-      no_range (inr high') = let never : false ≡ true = ap Rattle.outcome_spec.specs.Forms.is_upkeep (sym is) ∙ worker_upkeep script seat call.command high' ended.asked in let no : ⊥ = cc in no
-  at_quiet (command.Total table column low high) is own mine free w none = absurd (no_total (either script seat))
+      events : events_in call.made ≡ event.Range t table from to ∷ []
+      events = w.events ∙ ap (λ c. events_of (shape_of script) (Some t) call.reads seat c call.made) is
+
+      alone : (h : LastStands call line) (done : List Occurrence) → call.made ≡ done ++ h.made ∷ [] → MayStand (command.Range table from to) line
+      alone h (x ∷ done) all = absurd (none_behind (events_in done) h.made.event []
+          (sym (tails x.event (event.Range t table from to) (events_in (done ++ h.made ∷ [])) [] (sym (ap events_in all) ∙ events)) ∙ events_append done (h.made ∷ [])))
+      alone h [] all =
+          let event_is : h.made.event ≡ event.Range t table from to = heads h.made.event (event.Range t table from to) [] [] (sym (ap events_in all) ∙ events) in
+          let rows : flat_map rows_told (replies_in call.made) ≡ rows_told h.made.reply = ap (λ made. flat_map rows_told (replies_in made)) all ∙ append-nil (rows_told h.made.reply) in
+          subst (MayStand (command.Range table from to)) (line_same (is_worker (who_at script seat)) (said.Scanned (in_key_order table (flat_map rows_told (replies_in call.made)))) line call.told refl
+          (w.line ∙ ap (λ c. line_to (is_worker (who_at script seat)) (line_of (Some t) c (replies_in call.made))) is) tells)
+          (inl (subst (λ rows. length (in_key_order table rows) < 2 ^ 64) (sym rows) (h.few t table from to event_is)))
+
+      go : (call.made ≡ []) ⊎ LastStands call line → MayStand (command.Range table from to) line
+      go (inl nothing) = absurd (none_some (event.Range t table from to) [] (sym (ap events_in nothing) ∙ events))
+      go (inr h) = alone h h.done h.all
+  at_quiet (command.Total table column from to) is None mine free w none = absurd (let never : ⊥ = cc free in never)
+  at_quiet (command.Total table column from to) is (Some t) mine free w none = go (either script seat)
     where
-      no_total : (seat ≤ script.sessions) ⊎ (script.sessions < seat) → ⊥
-      no_total (inl least) = not_total script valid seat call.command least ended.asked table column low high is
-      no_total (inr high') = let never : false ≡ true = ap Rattle.outcome_spec.specs.Forms.is_upkeep (sym is) ∙ worker_upkeep script seat call.command high' ended.asked in let no : ⊥ = cc in no
+      go : (seat ≤ script.sessions) ⊎ (script.sessions < seat) → MayStand (command.Total table column from to) line
+      go (inr high) = absurd (no_worker high (ap Rattle.outcome_spec.specs.Forms.is_upkeep is))
+      go (inl low) =
+          let e : events_in call.made ≡ at_blocks (shape_of script) table (event.Read t table) = w.events ∙ ap (λ c. events_of (shape_of script) (Some t) call.reads seat c call.made) is in
+          let asked : is_total script.tables table column from to ≡ true = ap (is_command script.tables) (sym is) ∙ session_asked script valid seat call.command low ended.asked in
+          let rows : List Rattle.block_spec.specs.Slots.Row = flat_map rows_told (replies_in call.made) in
+          let few = all_few t table (total_named script.tables table column from to asked) e in
+          let small = total_small script.tables table column from to asked in
+          let count = numbers_few column from to small rows in
+          subst (MayStand (command.Total table column from to)) (line_same (is_worker (who_at script seat)) (total_told (numbers_between column from to (flat_map rows_told (replies_in call.made)))) line call.told refl
+          (w.line ∙ ap (λ c. line_to (is_worker (who_at script seat)) (line_of (Some t) c (replies_in call.made))) is) tells)
+          (inl (
+            let n : length (numbers_between column from to (flat_map rows_told (replies_in call.made))) < 2 ^ 64 = omega (arith, count, few) in n,
+            sum_small column from to small (flat_map rows_told (replies_in call.made)) few,
+          ))
   at_quiet (command.Insert table row) is None mine free w none = absurd (let never : ⊥ = cc free in never)
   at_quiet (command.Insert table row) is (Some t) mine free w none = absurd (let never : ⊥ = cc none in never)
   at_quiet (command.Update table row) is None mine free w none = absurd (let never : ⊥ = cc free in never)

@@ -3,6 +3,7 @@ use Rattle.std.proofs.Common.{◌≡◌, ◌⊎◌, ℕ, zero, suc, ◌-◌, ◌
 use mathlib.Core.Logic.{inl, inr}
 use Rattle.std.specs.Prelude.{IfSome, IsSome, fold, slice_get}
 use Rattle.std.specs.List.{flat_map, list_all, list_any, range_with_len}
+use Rattle.std.specs.Option.{option_map_or}
 use Rattle.std.proofs.lemmas.Bool.Decides.{nat_tests}
 use Rattle.std.proofs.lemmas.List.Sums.{fold-append}
 use Rattle.std.proofs.lemmas.Option.{slice_get_past}
@@ -15,11 +16,15 @@ use Rattle.core_laws.specs.Events.Named.{FollowsMachine}
 use Rattle.event_spec.specs.declared.event.Event.TheVariants as event
 use Rattle.event_spec.specs.declared.own.OwnTransaction.{OwnTransaction}
 use Rattle.event_spec.specs.Lawful.{Among, OwnsAll, reads_handed}
+use Rattle.event_spec.specs.Replies.{CoreReply}
 use Rattle.event_spec.specs.Parts.{Parts, Shape, below, blocks_of, desk_at}
 use Rattle.event_spec.specs.Sound.{Sound}
-use Rattle.isolation_spec.specs.Contents.{contents_of}
-use Rattle.isolation_spec.specs.Machine.{IsolationMachine, Transaction, seen_rows, step, step_of, transaction_of}
-use Rattle.isolation_spec.specs.Store.{Answered, Memory}
+use Rattle.isolation_spec.specs.Contents.{contents_of, numbers_between}
+use Rattle.isolation_spec.specs.Machine.{IsolationMachine, Transaction, seen_rows, step, step_of, told_total, transaction_of}
+use Rattle.isolation_spec.specs.Checked.{step_with}
+use Rattle.isolation_spec.specs.Store.{Answered, IsRead, Memory}
+use Rattle.isolation_spec.specs.declared.command.Act.{Act}
+use Rattle.isolation_spec.specs.declared.command.Answer.{Answer}
 use Rattle.isolation_spec.specs.declared.command.Act.TheVariants as act
 use Rattle.isolation_spec.specs.declared.command.Answer.TheVariants as answer
 use Rattle.isolation_spec.specs.declared.command.Command.{Command as Request}
@@ -27,7 +32,7 @@ use Rattle.isolation_spec.specs.Reads.{ReadSet}
 use Rattle.outcome_spec.specs.Entries.{Entry, thread}
 use Rattle.outcome_spec.specs.Forms.{is_upkeep, is_worker}
 use Rattle.outcome_spec.specs.Stale.{reads_after}
-use Rattle.timeline_spec.specs.Timeline.{Answers, ExportsBy, Takes, is_of_upkeep, request_of}
+use Rattle.timeline_spec.specs.Timeline.{Answers, ExportsBy, Takes, is_of_upkeep, request_of, said_of}
 use Rattle.workload_spec.specs.declared.command.Command.{Command}
 use Rattle.workload_spec.specs.declared.command.Command.TheVariants as command
 use Rattle.workload_spec.specs.declared.reply.Said.{Said}
@@ -35,13 +40,13 @@ use Rattle.workload_spec.specs.declared.reply.Said.TheVariants as said
 use Rattle.workload_spec.specs.declared.reply.Who.{Who}
 use Rattle.workload_spec.specs.declared.reply.Who.TheVariants.{Session, Worker}
 use Rattle.workload_spec.specs.declared.script.Script.{Script}
-use Rattle.workload_spec.specs.Valid.{is_command, is_valid}
-use Rattle.run_spec.specs.Asked.{at_blocks}
+use Rattle.workload_spec.specs.Valid.{are_bounds_in, is_command, is_total, is_valid}
+use Rattle.run_spec.specs.Asked.{at_blocks, events_of}
 use Rattle.run_spec.specs.Calls.{Call, IsCall, IsCallBy, IsPart, IsWhole, is_refused}
 use Rattle.run_spec.specs.Occurrences.{Occurrence, events_in, replies_in, under}
 use Rattle.run_spec.specs.Opened.{own_after, own_behind}
 use Rattle.run_spec.specs.Ran.{shape_of}
-use Rattle.run_spec.specs.Told.{in_key_order, refusal_of, rows_told}
+use Rattle.run_spec.specs.Told.{in_key_order, line_of, refusal_of, rows_told}
 use Rattle.run_laws.proofs.Calls.Along.{and_first, and_second}
 use Rattle.run_laws.proofs.Calls.Asking.{others_ask_nothing}
 use Rattle.run_laws.proofs.Calls.Coming.{lines_come_about}
@@ -50,7 +55,9 @@ use Rattle.run_laws.specs.Calls.Asking.{asks_nothing}
 use Rattle.run_laws.specs.Calls.Coming.{EndsAt, is_single}
 use Rattle.run_laws.specs.Calls.Open.{OpenAs}
 use Rattle.run_laws.specs.Calls.Upkeep.{AreReplied}
+use Rattle.store_laws.proofs.Permuted.{ordered_rows_are_the_rows}
 use Rattle.store_laws.proofs.Scans.{reads_are_the_scan}
+use Rattle.store_laws.proofs.Totals.{totals_go_by_the_rows}
 use Rattle.run_laws.proofs.Told.Tells.{calls_go_on_quietly}
 use Rattle.run_laws.specs.Told.Laws.{is_quiet}
 use Rattle.run_laws.specs.Moments.Laws.{IsAsked, command_told}
@@ -60,7 +67,7 @@ use Rattle.run_laws.specs.Explained.Reads.{ReadsStandIn, Stands}
 use Rattle.store_laws.specs.Stretches.{reads_block}
 use Rattle.run_laws.proofs.Explained.Keys.{SameKeys, quiet_own}
 use Rattle.run_laws.proofs.Explained.Rereading.{read_together}
-use Rattle.run_laws.proofs.Explained.Scripts.{is_shape, not_range, not_total, session_asked, worker_upkeep}
+use Rattle.run_laws.proofs.Explained.Scripts.{is_shape, session_asked, worker_upkeep}
 
 -- What is true is not false.
 true_false : true ≡ false → ⊥
@@ -156,6 +163,14 @@ has_table tables t e = go (nat_lt t (length tables)) refl
     go true f = grind (arith, nat_tests, f)
     go false f = absurd (true_false (sym e ∙ ap is_some (slice_get_past tables t (grind (arith, nat_tests, f)))))
 
+-- the table of a total is there
+pub total_named : (tables : List TableDecl) (table column : ℕ) (low high : ℤ) → is_total tables table column low high ≡ true → is_some (slice_get tables table) ≡ true
+total_named tables table column low high is = go (slice_get tables table) is
+  where
+    go : (o : Option TableDecl) → option_map_or (λ (decl : TableDecl). option_map_or (λ its. are_bounds_in its low high) (slice_get decl.schema column) false) o false ≡ true → is_some o ≡ true
+    go None is = absurd (true_false (sym is))
+    go (Some decl) is = refl
+
 module _ (script : Script) (valid : is_valid script ≡ true) (seat : ℕ) (parts : Parts) (front : List Occurrence) (at next : IsolationMachine) (call : Call)
     (ended : Ended script seat parts front at next call) where
   -- a call that asks nothing of the machine leaves it as it is
@@ -219,59 +234,119 @@ module _ (script : Script) (valid : is_valid script ≡ true) (seat : ℕ) (part
         count = ap (λ (rows : List Row). length rows) together ∙ law.count;
       }
 
-  -- What the session asks by a scan of the table.
-  abbrev asks : ℕ → Request
-  asks table = record { session = seat; act = act.Scan table }
+  -- A command that the machine answers from all rows of a table, and a call by reads of its blocks.
+  record AsksRows (asked : Command) (what : Act) (table : ℕ) (answer_to : List Row → Answer) : Type 0 where
+    other : is_single asked ≡ false
+    named : is_command script.tables asked ≡ true → is_some (slice_get script.tables table) ≡ true
+    refused : refusal_of asked None ≡ Some said.NoTransaction
+    begins : (own : OwnTransaction) → refusal_of asked (Some own) ≡ None
+    events : (own : OwnTransaction) (reads : Option ReadSet) (made : List Occurrence)
+        → events_of (shape_of script) (Some own) reads seat asked made ≡ at_blocks (shape_of script) table (event.Read own table)
+    told : (own : OwnTransaction) (replies : List CoreReply)
+        → length (flat_map rows_told replies) ≡ length (in_key_order table (flat_map rows_told replies))
+        → line_of (Some own) asked replies ≡ Some (said_of (answer_to (in_key_order table (flat_map rows_told replies))))
+    is_read : IsRead what
+    steps : (m : IsolationMachine) (reads : Option ReadSet) → step_with m reads (record { session = seat; act = what }) ≡ step_of m (record { session = seat; act = what }) (transaction_of seat m)
+    without : (m : IsolationMachine) → step_of m (record { session = seat; act = what }) None ≡ (answer.NoTransaction, m)
+    within : (m : IsolationMachine) (t : Transaction) → step_of m (record { session = seat; act = what }) (Some t) ≡ (answer_to (contents_of table (seen_rows m t)), m)
 
-  -- A session's scan that told a line is answered so by the machine.
-  scan_by : (reads : Option ReadSet) (table : ℕ) (line : Said) → call.command ≡ command.Scan table → is_worker (who_at script seat) ≡ false → seat ≤ script.sessions → call.told ≡ Some line
-      → Answers at reads (record { session = seat; act = act.Scan table }) line next
-  scan_by reads table line is session low tells = go (own_after ended.began) refl
-      (subst (λ w. IsCall (shape_of script) w seat ended.began call) session ended.is_call)
-    where
-      other : is_single call.command ≡ false
-      other = ap is_single is
+  scan_asks : (table : ℕ) → AsksRows (command.Scan table) (act.Scan table) table answer.Rows
+  scan_asks table = record {
+    other = refl;
+    named = λ is. is;
+    refused = refl;
+    begins = λ own. refl;
+    events = λ own reads made. refl;
+    told = λ own replies once. refl;
+    is_read = tt;
+    steps = λ m reads. refl;
+    without = λ m. refl;
+    within = λ m t. refl;
+  }
 
-      keeps : next ≡ at
-      keeps = stays (ap is_single is)
+  total_asks : (table column : ℕ) (low high : ℤ)
+      → AsksRows (command.Total table column low high) (act.Total table column low high) table (λ rows. told_total (numbers_between column low high rows))
+  total_asks table column low high = record {
+    other = refl;
+    named = λ is. total_named script.tables table column low high is;
+    refused = refl;
+    begins = λ own. refl;
+    events = λ own reads made. refl;
+    told = λ own replies once. ap Some (totals_go_by_the_rows column low high (flat_map rows_told replies) (in_key_order table (flat_map rows_told replies))
+        (ordered_rows_are_the_rows table (flat_map rows_told replies) once));
+    is_read = tt;
+    steps = λ m reads. refl;
+    without = λ m. refl;
+    within = λ m t. refl;
+  }
 
-      go : (o : Option OwnTransaction) → own_after ended.began ≡ o → IsCallBy (shape_of script) false seat (own_after ended.began) (refusal_of call.command (own_after ended.began)) call
-          → Answers at reads (record { session = seat; act = act.Scan table }) line next
-      go None mine h =
-          let r : (call.made ≡ []) × (call.told ≡ Some said.NoTransaction) =
-          subst (λ r. IsCallBy (shape_of script) false seat (own_after ended.began) r call) (ap (λ c. refusal_of c (own_after ended.began)) is ∙ ap (refusal_of (command.Scan table)) mine) h in
-          let none = none_open seat at (subst (λ o. OpenAs seat o (transaction_of seat at)) mine ended.open') in
-          record {
-            outcome = Answered answer.NoTransaction;
-            tells = same_line line said.NoTransaction (sym tells ∙ r.1);
-            allows = ap (λ o. step_of at (record { session = seat; act = act.Scan table }) o) none ∙ ap (λ m. (answer.NoTransaction, m)) (sym keeps);
-          }
-      go (Some own) mine h = made (subst (λ r. IsCallBy (shape_of script) false seat (own_after ended.began) r call) (ap (λ c. refusal_of c (own_after ended.began)) is ∙ ap (refusal_of (command.Scan table)) mine) h)
-        where
-          made : IsWhole (shape_of script) false seat (own_after ended.began) call ⊎ IsPart (shape_of script) seat (own_after ended.began) call
-              → Answers at reads (record { session = seat; act = act.Scan table }) line next
-          made (inl w) =
-              let e : events_in call.made ≡ at_blocks (shape_of script) table (event.Read own table) =
-              w.events ∙ ap (λ c. Rattle.run_spec.specs.Asked.events_of (shape_of script) (own_after ended.began) call.reads seat c call.made) is
-              ∙ ap (λ o. Rattle.run_spec.specs.Asked.events_of (shape_of script) o call.reads seat (command.Scan table) call.made) mine in
-              let has : is_some (slice_get script.tables table) ≡ true = ap (is_command script.tables) (sym is) ∙ session_asked script valid seat call.command low ended.asked in
-              let s = scanned own table mine (ap is_single is) has e w.granted in
-              let told : call.told ≡ Some (said.Scanned (in_key_order table (flat_map rows_told (replies_in call.made)))) =
-              w.line ∙ ap (λ c. Rattle.run_spec.specs.Told.line_of (own_after ended.began) c (replies_in call.made)) is in
-              record {
-                outcome = Answered (answer.Rows (contents_of table (seen_rows at s.t)));
-                tells = same_line line (said.Scanned (in_key_order table (flat_map rows_told (replies_in call.made)))) (sym tells ∙ told)
-                    ∙ ap said.Scanned (s.rows ∙ ap (λ m. contents_of table (seen_rows m s.t)) keeps);
-                allows = ap (λ o. step_of at (record { session = seat; act = act.Scan table }) o) (ap (transaction_of seat) (sym keeps) ∙ s.is)
-                    ∙ ap (λ m. (answer.Rows (contents_of table (seen_rows at s.t)), m)) (sym keeps);
-              }
-          made (inr p) =
-              let t = one_open seat at own (subst (λ o. OpenAs seat o (transaction_of seat at)) mine ended.open') in
-              record {
-                outcome = Memory;
-                tells = same_line line said.Memory (sym tells ∙ p.line);
-                allows = (inl tt, subst (λ (o : Option Transaction). IsSome o) (sym t.1) refl, keeps);
-              }
+  module _ (reads : Option ReadSet) (asked : Command) (what : Act) (table : ℕ) (answer_to : List Row → Answer) (asks : AsksRows asked what table answer_to) (line : Said)
+      (is : call.command ≡ asked) (low : seat ≤ script.sessions) (tells : call.told ≡ Some line) where
+    request : Request
+    request = record { session = seat; act = what }
+
+    other : is_single call.command ≡ false
+    other = ap is_single is ∙ asks.other
+
+    -- refused, where nothing is open
+    rows_refused : own_after ended.began ≡ None → (call.made ≡ []) × (call.told ≡ Some said.NoTransaction) → Answers at reads (record { session = seat; act = what }) line next
+    rows_refused mine h =
+        let none = none_open seat at (subst (λ o. OpenAs seat o (transaction_of seat at)) mine ended.open') in
+        record {
+          outcome = Answered answer.NoTransaction;
+          tells = same_line line said.NoTransaction (sym tells ∙ h.1);
+          allows = asks.steps at reads ∙ ap (λ o. step_of at (record { session = seat; act = what }) o) none ∙ asks.without at ∙ ap (λ m. (answer.NoTransaction, m)) (sym (stays other));
+        }
+
+    -- carried out
+    rows_whole : (own : OwnTransaction) → own_after ended.began ≡ Some own → IsWhole (shape_of script) false seat (own_after ended.began) call
+        → Answers at reads (record { session = seat; act = what }) line next
+    rows_whole own mine w =
+        let e : events_in call.made ≡ at_blocks (shape_of script) table (event.Read own table) =
+        w.events ∙ ap (λ c. events_of (shape_of script) (own_after ended.began) call.reads seat c call.made) is
+        ∙ ap (λ o. events_of (shape_of script) o call.reads seat asked call.made) mine ∙ asks.events own call.reads call.made in
+        let has : is_some (slice_get script.tables table) ≡ true = asks.named (ap (is_command script.tables) (sym is) ∙ session_asked script valid seat call.command low ended.asked) in
+        let s = scanned own table mine other has e w.granted in
+        let once : length (flat_map rows_told (replies_in call.made)) ≡ length (in_key_order table (flat_map rows_told (replies_in call.made))) =
+        s.count ∙ ap (λ (rows : List Row). length rows) (sym s.rows) in
+        let told : call.told ≡ Some (said_of (answer_to (in_key_order table (flat_map rows_told (replies_in call.made))))) =
+        w.line ∙ ap (λ c. line_of (own_after ended.began) c (replies_in call.made)) is ∙ ap (λ o. line_of o asked (replies_in call.made)) mine
+        ∙ asks.told own (replies_in call.made) once in
+        record {
+          outcome = Answered (answer_to (contents_of table (seen_rows at s.t)));
+          tells = same_line line (said_of (answer_to (in_key_order table (flat_map rows_told (replies_in call.made))))) (sym tells ∙ told)
+              ∙ ap (λ rows. said_of (answer_to rows)) (s.rows ∙ ap (λ m. contents_of table (seen_rows m s.t)) (stays other));
+          allows = asks.steps at reads ∙ ap (λ o. step_of at (record { session = seat; act = what }) o) (ap (transaction_of seat) (sym (stays other)) ∙ s.is)
+              ∙ asks.within at s.t ∙ ap (λ m. (answer_to (contents_of table (seen_rows at s.t)), m)) (sym (stays other));
+        }
+
+    -- cut short
+    rows_part : (own : OwnTransaction) → own_after ended.began ≡ Some own → IsPart (shape_of script) seat (own_after ended.began) call
+        → Answers at reads (record { session = seat; act = what }) line next
+    rows_part own mine p =
+        let t = one_open seat at own (subst (λ o. OpenAs seat o (transaction_of seat at)) mine ended.open') in
+        record {
+          outcome = Memory;
+          tells = same_line line said.Memory (sym tells ∙ p.line);
+          allows = (inl asks.is_read, subst (λ (o : Option Transaction). IsSome o) (sym t.1) refl, stays other);
+        }
+
+    -- A line that a session told of such a command is answered so by the machine.
+    rows_by : is_worker (who_at script seat) ≡ false → Answers at reads (record { session = seat; act = what }) line next
+    rows_by session = go (own_after ended.began) refl (subst (λ w. IsCall (shape_of script) w seat ended.began call) session ended.is_call)
+      where
+        as_asked : (o : Option OwnTransaction) → own_after ended.began ≡ o → refusal_of call.command (own_after ended.began) ≡ refusal_of asked o
+        as_asked o mine = ap (λ c. refusal_of c (own_after ended.began)) is ∙ ap (refusal_of asked) mine
+
+        go : (o : Option OwnTransaction) → own_after ended.began ≡ o → IsCallBy (shape_of script) false seat (own_after ended.began) (refusal_of call.command (own_after ended.began)) call
+            → Answers at reads (record { session = seat; act = what }) line next
+        go None mine h = rows_refused mine (subst (λ r. IsCallBy (shape_of script) false seat (own_after ended.began) r call) (as_asked None mine ∙ asks.refused) h)
+        go (Some own) mine h = made (subst (λ r. IsCallBy (shape_of script) false seat (own_after ended.began) r call) (as_asked (Some own) mine ∙ asks.begins own) h)
+          where
+            made : IsWhole (shape_of script) false seat (own_after ended.began) call ⊎ IsPart (shape_of script) seat (own_after ended.began) call
+                → Answers at reads (record { session = seat; act = what }) line next
+            made (inl w) = rows_whole own mine w
+            made (inr p) = rows_part own mine p
 
 -- ---- a line
 
@@ -287,34 +362,33 @@ entry_as entry who asked line = record {
 session_takes : (tables : List TableDecl) (lines : List Entry) (at next : IsolationMachine) (entry : Entry) (seat : ℕ) (asked : Command) (line : Said)
     → (is_single asked ≡ true → IfSome (request_of (Session seat) asked) (λ request. Answers at (reads_after (thread (Session seat) lines)) request line next))
     → ((table : ℕ) → asked ≡ command.Scan table → Answers at (reads_after (thread (Session seat) lines)) (record { session = seat; act = act.Scan table }) line next)
-    → ((table : ℕ) (low high : ℤ) → asked ≡ command.Range table low high → ⊥)
-    → ((table column : ℕ) (low high : ℤ) → asked ≡ command.Total table column low high → ⊥)
+    → ((table column : ℕ) (low high : ℤ) → asked ≡ command.Total table column low high → Answers at (reads_after (thread (Session seat) lines)) (record { session = seat; act = act.Total table column low high }) line next)
     → ((table : ℕ) → asked ≡ command.Export table → ExportsBy tables lines at (transaction_of seat at) table line × (next ≡ at))
     → (is_upkeep asked ≡ true → (is_of_upkeep line ≡ true) × (next ≡ at))
     → Takes tables lines at (entry_as entry (Session seat) asked line) next
-session_takes tables lines at next entry seat (command.Begin checked) line come scan range total export upkeep = come refl
-session_takes tables lines at next entry seat (command.Get table key) line come scan range total export upkeep = come refl
-session_takes tables lines at next entry seat (command.Scan table) line come scan range total export upkeep = scan table refl
-session_takes tables lines at next entry seat (command.Range table low high) line come scan range total export upkeep = absurd (range table low high refl)
-session_takes tables lines at next entry seat (command.Total table column low high) line come scan range total export upkeep = absurd (total table column low high refl)
-session_takes tables lines at next entry seat (command.Insert table row) line come scan range total export upkeep = come refl
-session_takes tables lines at next entry seat (command.Update table row) line come scan range total export upkeep = come refl
-session_takes tables lines at next entry seat (command.Delete table key) line come scan range total export upkeep = come refl
-session_takes tables lines at next entry seat command.Commit line come scan range total export upkeep = come refl
-session_takes tables lines at next entry seat command.Abort line come scan range total export upkeep = come refl
-session_takes tables lines at next entry seat command.Observe line come scan range total export upkeep = let u = upkeep refl in ((refl, u.0), u.1)
-session_takes tables lines at next entry seat command.Prune line come scan range total export upkeep = let u = upkeep refl in ((refl, u.0), u.1)
-session_takes tables lines at next entry seat (command.Compact table) line come scan range total export upkeep = let u = upkeep refl in ((refl, u.0), u.1)
-session_takes tables lines at next entry seat (command.Seal table block) line come scan range total export upkeep = let u = upkeep refl in ((refl, u.0), u.1)
-session_takes tables lines at next entry seat (command.Gather table block) line come scan range total export upkeep = let u = upkeep refl in ((refl, u.0), u.1)
-session_takes tables lines at next entry seat (command.Export table) line come scan range total export upkeep = export table refl
+session_takes tables lines at next entry seat (command.Begin checked) line come scan total export upkeep = come refl
+session_takes tables lines at next entry seat (command.Get table key) line come scan total export upkeep = come refl
+session_takes tables lines at next entry seat (command.Scan table) line come scan total export upkeep = scan table refl
+session_takes tables lines at next entry seat (command.Range table low high) line come scan total export upkeep = come refl
+session_takes tables lines at next entry seat (command.Total table column low high) line come scan total export upkeep = total table column low high refl
+session_takes tables lines at next entry seat (command.Insert table row) line come scan total export upkeep = come refl
+session_takes tables lines at next entry seat (command.Update table row) line come scan total export upkeep = come refl
+session_takes tables lines at next entry seat (command.Delete table key) line come scan total export upkeep = come refl
+session_takes tables lines at next entry seat command.Commit line come scan total export upkeep = come refl
+session_takes tables lines at next entry seat command.Abort line come scan total export upkeep = come refl
+session_takes tables lines at next entry seat command.Observe line come scan total export upkeep = let u = upkeep refl in ((refl, u.0), u.1)
+session_takes tables lines at next entry seat command.Prune line come scan total export upkeep = let u = upkeep refl in ((refl, u.0), u.1)
+session_takes tables lines at next entry seat (command.Compact table) line come scan total export upkeep = let u = upkeep refl in ((refl, u.0), u.1)
+session_takes tables lines at next entry seat (command.Seal table block) line come scan total export upkeep = let u = upkeep refl in ((refl, u.0), u.1)
+session_takes tables lines at next entry seat (command.Gather table block) line come scan total export upkeep = let u = upkeep refl in ((refl, u.0), u.1)
+session_takes tables lines at next entry seat (command.Export table) line come scan total export upkeep = export table refl
 
 -- A command of upkeep is none that is a single request of the machine.
 upkeep_other : (asked : Command) → is_upkeep asked ≡ true → is_single asked ≡ false
 upkeep_other (command.Begin checked) e = absurd (true_false (sym e))
 upkeep_other (command.Get table key) e = absurd (true_false (sym e))
 upkeep_other (command.Scan table) e = refl
-upkeep_other (command.Range table low high) e = refl
+upkeep_other (command.Range table low high) e = absurd (true_false (sym e))
 upkeep_other (command.Total table column low high) e = refl
 upkeep_other (command.Insert table row) e = absurd (true_false (sym e))
 upkeep_other (command.Update table row) e = absurd (true_false (sym e))
@@ -360,9 +434,10 @@ takes script valid seat parts front at next call lines entry ended tells who ask
         (λ single. subst (λ reads. IfSome (request_of (Session seat) call.command) (λ request. Answers at reads request entry.reply.said next)) handed
         (lines_come_about (shape_of script) seat ended.began call entry.reply.said at next single
         (subst (λ w. IsCall (shape_of script) w seat ended.began call) is_session ended.is_call) tells ended.open' ended.ends))
-        (λ table is. scan_by script valid seat parts front at next call ended (reads_after (thread (Session seat) lines)) table entry.reply.said is is_session low tells)
-        (not_range script valid seat call.command low ended.asked)
-        (not_total script valid seat call.command low ended.asked)
+        (λ table is. rows_by script valid seat parts front at next call ended (reads_after (thread (Session seat) lines)) (command.Scan table) (act.Scan table) table answer.Rows
+        (scan_asks script valid seat parts front at next call ended table) entry.reply.said is low tells is_session)
+        (λ table column from to is. rows_by script valid seat parts front at next call ended (reads_after (thread (Session seat) lines)) (command.Total table column from to) (act.Total table column from to) table
+        (λ rows. told_total (numbers_between column from to rows)) (total_asks script valid seat parts front at next call ended table column from to) entry.reply.said is low tells is_session)
         (λ table is. (export table is, stays script valid seat parts front at next call ended (ap is_single is)))
         upkeep)
     go (inr high) =

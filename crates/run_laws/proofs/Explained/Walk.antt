@@ -80,6 +80,7 @@ pruning_quiet (event.Insert own table row) p = absurd (true_false (sym p))
 pruning_quiet (event.Update own table row) p = absurd (true_false (sym p))
 pruning_quiet (event.Delete own table key) p = absurd (true_false (sym p))
 pruning_quiet (event.Read own table block) p = absurd (true_false (sym p))
+pruning_quiet (event.Range own table low high) p = absurd (true_false (sym p))
 pruning_quiet (event.Commit own reads) p = absurd (true_false (sym p))
 pruning_quiet (event.Abort own) p = absurd (true_false (sym p))
 pruning_quiet (event.Observe table block) p = absurd (true_false (sym p))
@@ -121,6 +122,7 @@ silent_stays shape parts worker made asked told at next (event.Delete own table 
 silent_stays shape parts worker made asked told at next (event.Delete own table key) false h none step =
     let w = write_line table (change_judged shape parts own table key) in absurd (told_something told w.0 (h.1 ∙ ap (line_to worker) w.1 ∙ not_silent worker w.0 w.2) none)
 silent_stays shape parts worker made asked told at next (event.Read own table block) refused h none step = step
+silent_stays shape parts worker made asked told at next (event.Range own table low high) refused h none step = absurd (told_something told h.0 h.1 none)
 silent_stays shape parts worker made asked told at next (event.Commit own reads) true h none step = absurd (told_something told said.Memory (h.1 ∙ not_silent worker said.Memory refl) none)
 silent_stays shape parts worker made asked told at next (event.Commit own reads) false h none step = absurd (commit_heard shape parts worker told own (stale_in shape parts own reads) h.1 none)
 silent_stays shape parts worker made asked told at next (event.Abort own) true h none step = absurd (told_something told said.Memory (h.1 ∙ not_silent worker said.Memory refl) none)

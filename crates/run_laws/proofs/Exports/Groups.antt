@@ -23,11 +23,11 @@ use Rattle.isolation_spec.specs.Contents.{at_place, contents_of, key_of, place_a
 use Rattle.isolation_spec.specs.Machine.{IsolationMachine, Transaction, transaction_of}
 use Rattle.isolation_spec.specs.Contents.{least_key}
 use Rattle.run_spec.specs.Told.{is_some_row}
+use Rattle.store_laws.proofs.Permuted.{ordered_rows_are_the_rows}
 use Rattle.store_laws.proofs.Scans.{reads_are_the_scan, within}
 use Rattle.stream_laws.specs.Laws.{IsBatch}
 use Rattle.isolation_laws.proofs.States.{state-order}
 use Rattle.run_laws.proofs.Exports.Clean.{contents_stay}
-use Rattle.run_laws.proofs.Exports.Permuted.{ordered_rows_are_the_rows}
 
 -- ---- groups that have a row
 

@@ -60,7 +60,7 @@ seal_other : (asked : Command) → is_seal_or_gather asked ≡ true → is_singl
 seal_other (command.Seal table block) e = refl
 seal_other (command.Gather table block) e = refl
 seal_other (command.Scan table) e = refl
-seal_other (command.Range table low high) e = refl
+seal_other (command.Range table low high) e = absurd (true_false (sym e))
 seal_other (command.Total table column low high) e = refl
 seal_other (command.Export table) e = refl
 seal_other command.Observe e = refl

@@ -1,11 +1,12 @@
 -- What a session's transaction read is in each of its calls what the lines before it tell.
-use Rattle.std.proofs.Common.{◌≡◌, ◌⊎◌, ℕ, ℤ, zero, suc, ◌+◌, ◌<◌, ◌≤◌, Bool, true, false, cond, ◌==◌, List, [], ◌∷◌, ◌++◌, map, Option, None, Some, All, refl, sym, ap, ◌∙◌, subst, arith, append-nil}
+use Rattle.std.proofs.Common.{◌≡◌, ◌⊎◌, ℕ, zero, suc, ◌+◌, ◌<◌, ◌≤◌, Bool, true, false, cond, ◌==◌, ◌&&◌, List, [], ◌∷◌, ◌++◌, map, Option, None, Some, All, refl, sym, ap, ◌∙◌, subst, arith, append-nil}
 use mathlib.Core.Logic.{inl, inr}
 use Rattle.std.specs.Prelude.{IfSome, option_and_then}
 use Rattle.std.specs.List.{cons_option, filter, filter_map, flat_map, range_with_len}
 use Rattle.std.specs.Option.{option_map_or}
 use Rattle.std.proofs.lemmas.Bool.Decides.{nat_tests}
-use Rattle.std.proofs.lemmas.List.Elements.{All-nil, filter-append, filter_map-append}
+use Rattle.std.proofs.lemmas.Bool.{and_parts}
+use Rattle.std.proofs.lemmas.List.Elements.{All-nil, All-push, filter-append, filter_map-append}
 use Rattle.std.proofs.lemmas.Grind.{flat_map-append}
 use Rattle.std.proofs.lemmas.List.{map-append}
 use Rattle.std.proofs.lemmas.List.Sums.{fold-append}
@@ -14,6 +15,7 @@ use Rattle.cell_model.specs.declared.table.TableDecl.{TableDecl}
 use Rattle.event_spec.specs.Lawful.{Among}
 use Rattle.isolation_spec.specs.Contents.{place_at, place_cmp}
 use Rattle.isolation_spec.specs.declared.place.Place.{Place}
+use Rattle.isolation_spec.specs.declared.read.KeyRange.{KeyRange}
 use Rattle.isolation_spec.specs.Reads.{ReadSet, no_reads}
 use Rattle.outcome_spec.specs.Entries.{Entry, is_same, thread}
 use Rattle.outcome_spec.specs.Forms.{is_upkeep, is_worker}
@@ -32,7 +34,7 @@ use Rattle.run_spec.specs.Occurrences.{Logged, Occurrence}
 use Rattle.run_spec.specs.Ran.{Agenda, AreRounds, Ran, RoundRun, Share, agenda_of, agendas_in, calls_of}
 use Rattle.run_laws.proofs.Calls.Along.{and_second}
 use Rattle.run_laws.proofs.Calls.Moments.{moments_are_the_round}
-use Rattle.run_laws.proofs.Explained.Scripts.{asked_fits, not_range}
+use Rattle.run_laws.proofs.Explained.Scripts.{asked_fits}
 use Rattle.run_laws.proofs.Moments.Rounds.{runs_have_moments}
 use Rattle.run_laws.proofs.Moments.Seats.{Aligned, Seat, aligned, calls_at, either, parted, session_at, worker_at}
 use Rattle.run_laws.proofs.Moments.Threads.{not_same, number_is, once}
@@ -46,43 +48,55 @@ true_false e = cc
 
 -- ---- keys of 64 bits
 
--- the keys that were read are numbers of 64 bits, and no range was read
+-- the ends of a range are numbers of 64 bits
+pub record HasEnds (range : KeyRange) : Type 0 where
+  pub low : is_key_number range.low ≡ true
+  pub high : is_key_number range.high ≡ true
+
+-- the keys that were read, and the ends of the ranges, are numbers of 64 bits
 pub record AreKeys (reads : ReadSet) : Type 0 where
   pub keys : All (λ (place : Place). is_key_number place.key ≡ true) reads.places
-  pub ranges : reads.ranges ≡ []
+  pub ranges : All HasEnds reads.ranges
 
 -- so it is of what was read, where that is kept
 abbrev pub ReadsAreKeys : Option ReadSet → Type 0
 ReadsAreKeys reads = IfSome reads AreKeys
 
--- A key of 64 bits that is got, or a table that is read, leaves the keys that were read such keys.
+-- A key of 64 bits that is got, a table that is read, or a range between such keys leaves the keys
+-- that were read such keys.
 entered_keys : (tables : List TableDecl) (asked : Command) (reads : Option ReadSet) → is_command tables asked ≡ true
-    → ((table : ℕ) (low high : ℤ) → asked ≡ command.Range table low high → ⊥) → ReadsAreKeys reads → ReadsAreKeys (entered reads asked)
-entered_keys tables asked None fits no_range keys = tt
-entered_keys tables (command.Get table key) (Some set) fits no_range keys = record {
+    → ReadsAreKeys reads → ReadsAreKeys (entered reads asked)
+entered_keys tables asked None fits keys = tt
+entered_keys tables (command.Get table key) (Some set) fits keys = record {
   keys = All-insert_key place_cmp (place_at table key) (λ (place : Place). is_key_number place.key ≡ true) set.places keys.keys (and_second (is_table_place tables table) (is_key_number key) fits);
   ranges = keys.ranges;
 }
-entered_keys tables (command.Scan table) (Some set) fits no_range keys = record { keys = keys.keys; ranges = keys.ranges }
-entered_keys tables (command.Range table low high) (Some set) fits no_range keys = absurd (no_range table low high refl)
-entered_keys tables (command.Total table column low high) (Some set) fits no_range keys = record { keys = keys.keys; ranges = keys.ranges }
-entered_keys tables (command.Export table) (Some set) fits no_range keys = record { keys = keys.keys; ranges = keys.ranges }
-entered_keys tables (command.Begin checked) (Some set) fits no_range keys = keys
-entered_keys tables (command.Insert table row) (Some set) fits no_range keys = keys
-entered_keys tables (command.Update table row) (Some set) fits no_range keys = keys
-entered_keys tables (command.Delete table key) (Some set) fits no_range keys = keys
-entered_keys tables command.Commit (Some set) fits no_range keys = keys
-entered_keys tables command.Abort (Some set) fits no_range keys = keys
-entered_keys tables command.Observe (Some set) fits no_range keys = keys
-entered_keys tables command.Prune (Some set) fits no_range keys = keys
-entered_keys tables (command.Compact table) (Some set) fits no_range keys = keys
-entered_keys tables (command.Seal table block) (Some set) fits no_range keys = keys
-entered_keys tables (command.Gather table block) (Some set) fits no_range keys = keys
+entered_keys tables (command.Scan table) (Some set) fits keys = record { keys = keys.keys; ranges = keys.ranges }
+entered_keys tables (command.Range table low high) (Some set) fits keys =
+    let both = and_parts (is_table_place tables table && is_key_number low) (is_key_number high) fits in
+    let first = and_parts (is_table_place tables table) (is_key_number low) both.0 in
+    record {
+      keys = keys.keys;
+      ranges = All-push HasEnds set.ranges (record { table = table; low = low; high = high }) keys.ranges (record { low = first.1; high = both.1 });
+    }
+entered_keys tables (command.Total table column low high) (Some set) fits keys = record { keys = keys.keys; ranges = keys.ranges }
+entered_keys tables (command.Export table) (Some set) fits keys = record { keys = keys.keys; ranges = keys.ranges }
+entered_keys tables (command.Begin checked) (Some set) fits keys = keys
+entered_keys tables (command.Insert table row) (Some set) fits keys = keys
+entered_keys tables (command.Update table row) (Some set) fits keys = keys
+entered_keys tables (command.Delete table key) (Some set) fits keys = keys
+entered_keys tables command.Commit (Some set) fits keys = keys
+entered_keys tables command.Abort (Some set) fits keys = keys
+entered_keys tables command.Observe (Some set) fits keys = keys
+entered_keys tables command.Prune (Some set) fits keys = keys
+entered_keys tables (command.Compact table) (Some set) fits keys = keys
+entered_keys tables (command.Seal table block) (Some set) fits keys = keys
+entered_keys tables (command.Gather table block) (Some set) fits keys = keys
 
 -- So does whatever is told of a command of 64-bit keys.
 behind_keys : (tables : List TableDecl) (asked : Command) (told : Said) (reads : Option ReadSet) → (is_upkeep asked ≡ false → is_command tables asked ≡ true)
-    → ((table : ℕ) (low high : ℤ) → asked ≡ command.Range table low high → ⊥) → ReadsAreKeys reads → ReadsAreKeys (reads_behind reads asked told)
-behind_keys tables asked told reads fits no_range keys = by told
+    → ReadsAreKeys reads → ReadsAreKeys (reads_behind reads asked told)
+behind_keys tables asked told reads fits keys = by told
   where
     enters : ReadsAreKeys (entered reads asked)
     enters = go (is_upkeep asked) refl
@@ -112,10 +126,10 @@ behind_keys tables asked told reads fits no_range keys = by told
 
         go : (b : Bool) → is_upkeep asked ≡ b → ReadsAreKeys (entered reads asked)
         go true up = subst ReadsAreKeys (sym (kept asked up reads)) keys
-        go false up = entered_keys tables asked reads (fits up) no_range keys
+        go false up = entered_keys tables asked reads (fits up) keys
 
     begun : (checked : Bool) → ReadsAreKeys (cond checked (Some no_reads) None)
-    begun true = record { keys = All-nil (λ (place : Place). is_key_number place.key ≡ true); ranges = refl }
+    begun true = record { keys = All-nil (λ (place : Place). is_key_number place.key ≡ true); ranges = All-nil HasEnds }
     begun false = tt
 
     by : (told : Said) → ReadsAreKeys (reads_behind reads asked told)
@@ -200,8 +214,7 @@ module _ (script : Script) (valid : is_valid script ≡ true) where
 
       now : (told : Option Said) → ReadsAreKeys (option_map_or (reads_behind (reads_after (thread (who_at script q) lines)) line.call.command) told (reads_after (thread (who_at script q) lines)))
       now None = known.1
-      now (Some told) = behind_keys script.tables line.call.command told (reads_after (thread (who_at script q) lines)) (asked_fits script valid q line.call.command asked)
-          (λ table low' high is. not_range script valid q line.call.command low asked table low' high is) known.1
+      now (Some told) = behind_keys script.tables line.call.command told (reads_after (thread (who_at script q) lines)) (asked_fits script valid q line.call.command asked) known.1
 
   -- A moment leaves known what the sessions have read.
   moment_on : (front : List Occurrence) (lines : List Entry) (seat q : ℕ) (event : Option Occurrence) (o : Option Lined) (calls : List Call) → q ≤ script.sessions

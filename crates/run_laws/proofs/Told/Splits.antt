@@ -70,7 +70,7 @@ abbrev pub quiet_of : Shape → Option OwnTransaction → Command → List Occur
 quiet_of shape own (command.Begin checked) made = []
 quiet_of shape own (command.Get table key) made = by_own own (λ t. event.Get (own_key table key t) table key ∷ [])
 quiet_of shape own (command.Scan table) made = by_own own (λ t. at_blocks shape table (event.Read t table))
-quiet_of shape own (command.Range table low high) made = by_own own (λ t. at_blocks shape table (event.Read t table))
+quiet_of shape own (command.Range table low high) made = by_own own (λ t. event.Range t table low high ∷ [])
 quiet_of shape own (command.Total table column low high) made = by_own own (λ t. at_blocks shape table (event.Read t table))
 quiet_of shape own (command.Insert table row) made = []
 quiet_of shape own (command.Update table row) made = by_own own (λ t. thaws shape table (key_of row) made)
@@ -137,7 +137,7 @@ pub split_events : (shape : Shape) (own : Option OwnTransaction) (handed : Optio
 split_events shape own handed session (command.Begin checked) made = refl
 split_events shape own handed session (command.Get table key) made = by_none own (λ t. event.Get (own_key table key t) table key ∷ [])
 split_events shape own handed session (command.Scan table) made = by_none own (λ t. at_blocks shape table (event.Read t table))
-split_events shape own handed session (command.Range table low high) made = by_none own (λ t. at_blocks shape table (event.Read t table))
+split_events shape own handed session (command.Range table low high) made = by_none own (λ t. event.Range t table low high ∷ [])
 split_events shape own handed session (command.Total table column low high) made = by_none own (λ t. at_blocks shape table (event.Read t table))
 split_events shape own handed session (command.Insert table row) made = by_one own (λ t. event.Insert (own_key table (key_of row) t) table row)
 split_events shape own handed session (command.Update table row) made =
@@ -172,7 +172,8 @@ pub are_quiet : (shape : Shape) (own : Option OwnTransaction) (asked : Command) 
 are_quiet shape own (command.Begin checked) made = refl
 are_quiet shape own (command.Get table key) made = quiet_get own table key
 are_quiet shape own (command.Scan table) made = reads is_quiet shape own table (λ t is block. refl)
-are_quiet shape own (command.Range table low high) made = reads is_quiet shape own table (λ t is block. refl)
+are_quiet shape None (command.Range table low high) made = refl
+are_quiet shape (Some t) (command.Range table low high) made = refl
 are_quiet shape own (command.Total table column low high) made = reads is_quiet shape own table (λ t is block. refl)
 are_quiet shape own (command.Insert table row) made = refl
 are_quiet shape own (command.Update table row) made =

@@ -153,6 +153,7 @@ quiet_tells worker made (event.Insert own table row) told asked line q h = absur
 quiet_tells worker made (event.Update own table row) told asked line q h = absurd (not_true q)
 quiet_tells worker made (event.Delete own table key) told asked line q h = absurd (not_true q)
 quiet_tells worker made (event.Read own table block) told asked line q h = h
+quiet_tells worker made (event.Range own table low high) told asked line q h = h
 quiet_tells worker made (event.Commit own reads) told asked line q h = absurd (not_true q)
 quiet_tells worker made (event.Abort own) told asked line q h = absurd (not_true q)
 quiet_tells worker made event.Oldest told asked line q h = h
@@ -178,6 +179,7 @@ unmoved shape parts (event.Read own table block) false q = go (is_imaged (body_a
     go : (b : Bool) → moved_told (cond b (reply.Shared (Rattle.block_spec.specs.Bodies.rows_of (body_at shape parts table block))) (reply.Rows (Rattle.event_spec.specs.Replies.rows_read shape parts own table block))) ≡ 0
     go true = refl
     go false = refl
+unmoved shape parts (event.Range own table low high) false q = refl
 unmoved shape parts (event.Commit own reads) false q = absurd (not_true q)
 unmoved shape parts (event.Abort own) false q = refl
 unmoved shape parts event.Oldest false q = refl
@@ -367,7 +369,7 @@ module _ (shape : Shape) (worker : Bool) (session : ℕ) (call : Call) (done : L
       )
   at_quiet (command.Scan table) own free line es is sum = said_plain (said.Scanned (Rattle.run_spec.specs.Told.in_key_order table (flat_map Rattle.run_spec.specs.Told.rows_told (replies_in call.made)))) refl refl line (command.Scan table)
   at_quiet (command.Range table low high) own free line es is sum =
-      said_plain (said.Scanned (Rattle.run_spec.specs.Told.rows_between table low high (flat_map Rattle.run_spec.specs.Told.rows_told (replies_in call.made)))) refl refl line (command.Range table low high)
+      said_plain (said.Scanned (Rattle.run_spec.specs.Told.in_key_order table (flat_map Rattle.run_spec.specs.Told.rows_told (replies_in call.made)))) refl refl line (command.Range table low high)
   at_quiet (command.Total table column low high) own free line es is sum = said_plain
       (Rattle.run_spec.specs.Told.total_told
       (Rattle.isolation_spec.specs.Contents.numbers_between column low high (flat_map Rattle.run_spec.specs.Told.rows_told (replies_in call.made))))
@@ -538,8 +540,8 @@ none_told shape worker handed session (command.Get table key) None told free es 
 none_told shape worker handed session (command.Get table key) (Some t) told free es line = absurd (let never : ⊥ = cc es in never)
 none_told shape worker handed session (command.Scan table) own told free es line =
     (said.Scanned (Rattle.run_spec.specs.Told.in_key_order table []), line ∙ not_silent worker (said.Scanned (Rattle.run_spec.specs.Told.in_key_order table [])) refl, inl refl)
-none_told shape worker handed session (command.Range table low high) own told free es line =
-    (said.Scanned (Rattle.run_spec.specs.Told.rows_between table low high []), line ∙ not_silent worker (said.Scanned (Rattle.run_spec.specs.Told.rows_between table low high [])) refl, inl refl)
+none_told shape worker handed session (command.Range table low high) None told free es line = absurd (no_refusal said.NoTransaction free)
+none_told shape worker handed session (command.Range table low high) (Some t) told free es line = absurd (let never : ⊥ = cc es in never)
 none_told shape worker handed session (command.Total table column low high) own told free es line = (
   Rattle.run_spec.specs.Told.total_told (Rattle.isolation_spec.specs.Contents.numbers_between column low high []),
   line ∙ not_silent worker (Rattle.run_spec.specs.Told.total_told (Rattle.isolation_spec.specs.Contents.numbers_between column low high [])) refl,

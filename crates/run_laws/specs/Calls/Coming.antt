@@ -19,7 +19,7 @@ abbrev pub is_single : Command → Bool
 is_single (command.Begin checked) = true
 is_single (command.Get table key) = true
 is_single (command.Scan table) = false
-is_single (command.Range table low high) = false
+is_single (command.Range table low high) = true
 is_single (command.Total table column low high) = false
 is_single (command.Insert table row) = true
 is_single (command.Update table row) = true

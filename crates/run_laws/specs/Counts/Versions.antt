@@ -52,6 +52,7 @@ written_by session (event.Update own table row) told =
 written_by session (event.Delete own table key) told =
     if own.session == session then writes_told told else 0
 written_by session (event.Read own table block) told = 0
+written_by session (event.Range own table low high) told = 0
 written_by session (event.Commit own reads) told = 0
 written_by session (event.Abort own) told = 0
 written_by session event.Oldest told = 0
@@ -84,6 +85,7 @@ stamped_by shape parts (event.Insert own table row) told = 0
 stamped_by shape parts (event.Update own table row) told = 0
 stamped_by shape parts (event.Delete own table key) told = 0
 stamped_by shape parts (event.Read own table block) told = 0
+stamped_by shape parts (event.Range own table low high) told = 0
 stamped_by shape parts (event.Commit own reads) told = commits_told told
     (own_entries shape parts own.session)
 stamped_by shape parts (event.Abort own) told = 0
@@ -104,6 +106,7 @@ dropped_by (event.Insert own table row) told = 0
 dropped_by (event.Update own table row) told = 0
 dropped_by (event.Delete own table key) told = 0
 dropped_by (event.Read own table block) told = 0
+dropped_by (event.Range own table low high) told = 0
 dropped_by (event.Commit own reads) told = 0
 dropped_by (event.Abort own) told = 0
 dropped_by event.Oldest told = 0

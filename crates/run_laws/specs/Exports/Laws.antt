@@ -1,8 +1,6 @@
 -- What an export sent, and what the printed lines of its run say of it.
-use Rattle.std.specs.Prelude.{◌≡◌, ℕ, true, false, List, [], ◌∷◌, ◌++◌, length}
+use Rattle.std.specs.Prelude.{◌≡◌, ℕ, true, false, List, [], ◌∷◌, ◌++◌}
 use Rattle.std.specs.List.{list_any}
-use Rattle.std.specs.List.Sorted.{IsPermutation}
-use Rattle.block_spec.specs.Slots.{Row}
 use Rattle.cell_model.specs.declared.table.TableDecl.{TableDecl}
 use Rattle.export_spec.specs.Calls.{CallSends, CallsSend, WereSent, calls_in}
 use Rattle.export_spec.specs.Sent.{EachSays, SaysAllSent}
@@ -11,16 +9,8 @@ use Rattle.outcome_spec.specs.Explained.{run_in}
 use Rattle.run_spec.specs.Calls.{Call}
 use Rattle.run_spec.specs.Occurrences.{Logged}
 use Rattle.run_spec.specs.Ran.{Ran, told_in}
-use Rattle.run_spec.specs.Told.{in_key_order}
 use Rattle.workload_spec.specs.declared.script.Script.{Script}
 use Rattle.workload_spec.specs.Valid.{all_lines, is_export, is_valid}
-
--- Rows that are as many as they are in the order of their keys, where of those with one key only
--- the last is left, are the same rows.
-abbrev pub OrderedRowsAreTheRows : Type 0
-OrderedRowsAreTheRows = (table : ℕ) (rows : List Row)
-    → length rows ≡ length (in_key_order table rows)
-    → IsPermutation rows (in_key_order table rows)
 
 -- In whatever order the sessions of a run went on, its printed lines say what its export sent.
 abbrev pub ExportsAreSaid : Type 0

@@ -27,6 +27,7 @@ is_quiet (event.Insert own table row) = false
 is_quiet (event.Update own table row) = false
 is_quiet (event.Delete own table key) = false
 is_quiet (event.Read own table block) = true
+is_quiet (event.Range own table low high) = true
 is_quiet (event.Commit own reads) = false
 is_quiet (event.Abort own) = false
 is_quiet event.Oldest = true
@@ -98,6 +99,7 @@ TellsAt worker made (event.Update own table row) told asked line =
 TellsAt worker made (event.Delete own table key) told asked line =
     (asked ≡ command.Delete table key) × (line ≡ line_to worker (told_by table 0 told))
 TellsAt worker made (event.Read own table block) told asked line = TellsQuietly asked made line
+TellsAt worker made (event.Range own table low high) told asked line = TellsQuietly asked made line
 TellsAt worker made (event.Commit own reads) told asked line =
     (asked ≡ command.Commit) × (line ≡ line_to worker (told_by 0 0 told))
 TellsAt worker made (event.Abort own) told asked line =

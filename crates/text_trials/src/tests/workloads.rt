@@ -43,7 +43,9 @@ fn a_workload_of_the_second_version_is_read_and_printed_back(rt: HostRuntime) ->
     let alloc = rt.alloc();
     let bytes = b"store 2\ntable a key:i64 b:large_utf8? c:large_binary d:fixed3? e:fixed1024? \
           f:date slots 8 blocks 2\nsessions 1\nworkers 0 0\ngo\n1 begin checked\n1 insert a 1 \"\" x \
-          x0a0bff null -2147483648\n1 update a 1 null x00 null null 2147483647\n";
+          x0a0bff null -2147483648\n1 update a 1 null x00 null null 2147483647\n1 range a \
+          -9223372036854775808 9223372036854775807\n1 range a 4 3\n1 total a f -2147483648 \
+          2147483647\n1 total a key 9 -3\n";
     let script = parse(alloc, bytes).ok().ok_or("the bytes are a workload")?;
     assert_eq!(rt; script.version, 2);
     let printed = print(alloc, &script)?;
@@ -52,12 +54,13 @@ fn a_workload_of_the_second_version_is_read_and_printed_back(rt: HostRuntime) ->
 }
 
 /// A version, and a line of a round whose command the version does not take.
-const OTHER_COMMANDS: [(&'static [u8], &'static [u8]); 12] = [
+const OTHER_COMMANDS: [(&'static [u8], &'static [u8]); 13] = [
     (b"1", b"1 begin checked"),
     (b"1", b"1 range a 1 2"),
     (b"1", b"1 total a n 1 2"),
-    (b"2", b"1 range a 1 2"),
-    (b"2", b"1 total a n 1 2"),
+    (b"2", b"1 range a 1"),
+    (b"2", b"1 range a 1 2 3"),
+    (b"2", b"1 total a n 1"),
     (b"2", b"1 begin checked now"),
     (b"2", b"1 begin Checked"),
     (b"2", b"1 begin checked "),
@@ -70,8 +73,8 @@ const OTHER_COMMANDS: [(&'static [u8], &'static [u8]); 12] = [
 /// The workload of a version with one line in its round.
 fn workload_with(alloc: Global, version: &[u8], line: &[u8]) -> Result<Vec<u8>, AllocError> {
     let mut text = texts_joined(alloc, b"store ", version)?;
-    text.extend_from_slice(b"\ntable a key:i64 n:i8? slots 8 blocks 2\nsessions 2\nworkers 0 0\n")?;
-    text.extend_from_slice(b"go\n")?;
+    text.extend_from_slice(b"\ntable a key:i64 n:i8? t:utf8 slots 8 blocks 2\nsessions 2\n")?;
+    text.extend_from_slice(b"workers 0 0\ngo\n")?;
     text.extend_from_slice(line)?;
     text.push(b'\n')?;
     Ok(text)
@@ -87,6 +90,34 @@ fn a_command_that_the_version_does_not_take_is_refused(rt: HostRuntime) -> Resul
                 assert_eq!(rt; cause, Cause::Command);
             }
             _ => return Err(Fail::from("the version takes no such command")),
+        }
+    }
+    Ok(())
+}
+
+/// A range or a total of the second version, and its first word that is none.
+const OTHER_BOUNDS: [(&'static [u8], Cause); 9] = [
+    (b"1 range z x 2", Cause::Unknown),
+    (b"1 range a x 2", Cause::Number),
+    (b"1 range a 1 9223372036854775808", Cause::Number),
+    (b"1 total z v x 2", Cause::Unknown),
+    (b"1 total a v x 2", Cause::Column),
+    (b"1 total a t 0 1", Cause::Column),
+    (b"1 total a n x 2", Cause::Number),
+    (b"1 total a n -129 1", Cause::Number),
+    (b"1 total a n 0 128", Cause::Number),
+];
+
+#[test]
+fn a_range_or_a_total_is_refused_by_its_first_fault(rt: HostRuntime) -> Result<(), Fail> {
+    let alloc = rt.alloc();
+    for (line, expected) in &OTHER_BOUNDS {
+        match parse(alloc, &workload_with(alloc, b"2", *line)?) {
+            Err(ScriptFault::Bad { line, cause }) => {
+                assert_eq!(rt; line, 6);
+                assert_eq!(rt; cause, *expected);
+            }
+            _ => return Err(Fail::from("the line is none of a workload")),
         }
     }
     Ok(())

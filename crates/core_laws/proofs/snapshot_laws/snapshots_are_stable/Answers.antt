@@ -7,4 +7,4 @@ pub returns-clause-others : goal.returns-clause-others
 returns-clause-others c = seen_stays
 
 pub returns-clause-looks : goal.returns-clause-looks
-returns-clause-looks c = λ shape parts. (λ own table key. all_stay (names shape) parts, λ own table block. all_stay (names shape) parts)
+returns-clause-looks c = λ shape parts. (λ own table key. all_stay (names shape) parts, λ own table block. all_stay (names shape) parts, λ own table low high. all_stay (names shape) parts)

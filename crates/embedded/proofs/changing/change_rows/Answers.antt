@@ -5,6 +5,7 @@ use Rattle.std.specs.Int.{w64}
 use Rattle.std.proofs.lemmas.Int.{to_z-of_z}
 use Rattle.isolation_spec.specs.Contents.{place_cmp, place_of}
 use Rattle.shared_store.specs.Open.{Commits, commits_seen}
+use Rattle.shared_store.proofs.Claims.{free_on}
 use Rattle.embedded.proofs.Changes.{all_put, finds_changes, inserted, is_numbered}
 use Rattle.embedded.proofs.Handing.{begins, opens}
 use Rattle.embedded.proofs.Plain.{plain_begun, plain_scanned}
@@ -149,3 +150,24 @@ pub returns-clause-no_room : goal.returns-clause-no_room
 returns-clause-no_room g c =
     told_done c.args.one.now c.args.two.now 1032 1025 c.has_room.result c.has_room-else-not-has_room.result c.has_room.ensures c.has_room-else-not-has_room.ensures
     c.if-not-has_room.false c.if-not-has_room-2.false _
+
+pub returns-in_err-insert-2-clause-no_room : goal.returns-in_err-insert-2-clause-no_room
+returns-in_err-insert-2-clause-no_room g c =
+    told_refused c.args.one.now c.args.two.now 1032 1025 c.has_room.result c.has_room-else-not-has_room.result c.has_room.ensures c.has_room-else-not-has_room.ensures
+    c.if-not-has_room.false c.if-not-has_room-2.false c.from_residual-in_err-insert-2.result _ c.from_residual-in_err-insert-2.ensures.1
+
+pub returns-in_err-other-clause-free_one : goal.returns-in_err-other-clause-free_one
+returns-in_err-other-clause-free_one g c =
+    free_on c.meet.ensures.a.reads (free_on c.commit.ensures.answers.reads (free_on c.scan_uncounted.ensures.answers.reads (free_on c.delete.ensures.answers.reads
+    (free_on c.update.ensures.answers.reads (free_on c.insert-2.ensures.answers.reads (free_on c.insert.ensures.answers.reads (free_on c.begin.ensures.answers.reads c.requires.free_one)))))))
+
+pub returns-in_err-other-clause-free_two : goal.returns-in_err-other-clause-free_two
+returns-in_err-other-clause-free_two g c = free_on c.scan_uncounted-2.ensures.answers.reads (free_on c.begin-2.ensures.answers.reads (free_on c.meet.ensures.b.reads c.requires.free_two))
+
+pub returns-clause-free_one : goal.returns-clause-free_one
+returns-clause-free_one g c =
+    free_on c.meet.ensures.a.reads (free_on c.commit.ensures.answers.reads (free_on c.scan_uncounted.ensures.answers.reads (free_on c.delete.ensures.answers.reads
+    (free_on c.update.ensures.answers.reads (free_on c.insert-2.ensures.answers.reads (free_on c.insert.ensures.answers.reads (free_on c.begin.ensures.answers.reads c.requires.free_one)))))))
+
+pub returns-clause-free_two : goal.returns-clause-free_two
+returns-clause-free_two g c = free_on c.scan_uncounted-2.ensures.answers.reads (free_on c.begin-2.ensures.answers.reads (free_on c.meet.ensures.b.reads c.requires.free_two))

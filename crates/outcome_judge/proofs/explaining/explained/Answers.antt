@@ -5,7 +5,7 @@ use Rattle.outcome_spec.specs.Runs.{run_of}
 use Rattle.output_read.specs.Kept.{entries_of}
 use Rattle.output_read.specs.declared.kept.KeptReply.{KeptReply}
 use Rattle.outcome_judge.proofs.Answered.{read-fails}
-use Rattle.outcome_judge.proofs.Asking.{read-judged}
+use Rattle.outcome_judge.proofs.Asking.{read-bounded}
 use Rattle.outcome_judge.proofs.explaining.explained.Goals as goal
 
 pub unsound_line-requires-clause-outside : goal.unsound_line-requires-clause-outside
@@ -13,9 +13,9 @@ unsound_line-requires-clause-outside c =
     c.replies_that_are_read_open_outside.ensures c.args.script.now c.args.text.now (entries_of c.as_slice-replies.result.now)
     (c.in_ok-replies.ensures.read ∙ ap (λ (kept : List KeptReply). Ok (entries_of kept)) (sym c.as_slice-replies.ensures.value))
 
-pub unsound_line-requires-clause-judged : goal.unsound_line-requires-clause-judged
-unsound_line-requires-clause-judged c =
-    read-judged c.args.script.now c.args.text.now (entries_of c.as_slice-replies.result.now) c.requires
+pub unsound_line-requires-clause-bounded : goal.unsound_line-requires-clause-bounded
+unsound_line-requires-clause-bounded c =
+    read-bounded c.args.script.now c.args.text.now (entries_of c.as_slice-replies.result.now) c.requires
     (c.in_ok-replies.ensures.read ∙ ap (λ (kept : List KeptReply). Ok (entries_of kept)) (sym c.as_slice-replies.ensures.value))
 
 pub returns : goal.returns

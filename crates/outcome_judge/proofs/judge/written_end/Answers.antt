@@ -28,7 +28,7 @@ returns c =
     let parts : (entry : Entry) → (sessions_hold run entry && commits_hold run entry) ≡ (conflicts_hold run entry && reads_last run entry) =
     λ entry. five-in-turn (sessions_hold run entry) (heights_hold run entry) (tops_stand run entry) (numbers_hold run entry) (reads_stand run entry)
     ∙ ap (λ (b : Bool). b && (tops_stand run entry && reads_stand run entry)) (in-parts tables (entries_of replies) entry)
-    ∙ ap (λ (b : Bool). conflicts_hold run entry && b) (reads-parts tables (entries_of replies) c.requires.judged entry) in
+    ∙ ap (λ (b : Bool). conflicts_hold run entry && b) (reads-parts tables (entries_of replies) entry) in
     let clear = same-end (λ entry. sessions_hold run entry && commits_hold run entry) (λ entry. conflicts_hold run entry && reads_last run entry) replies c.args.until c.in_ok-clear.clear parts
     (both-end (sessions_hold run) (commits_hold run) replies c.args.until c.in_ok-free.free c.in_ok-clear.clear (c.in_ok-free.ensures tables) (c.in_ok-clear.ensures tables)) in
     ok-map _ _ c.seen_end.result _ _

@@ -1,4 +1,4 @@
-use Rattle.std.proofs.Common.{◌≡◌, ◌∙◌, ap, sym, true, refl, ℕ, Option, None, Some}
+use Rattle.std.proofs.Common.{◌≡◌, ◌∙◌, ap, sym, true, refl, ℕ, None, Some}
 use Rattle.std.specs.Prelude.{option_and_then}
 use Rattle.output_read.specs.Kept.{entries_of, entry_of}
 use Rattle.outcome_counts.specs.Asked.{asked_at}
@@ -7,7 +7,6 @@ use Rattle.outcome_counts.proofs.Asked.{asked-is}
 use Rattle.outcome_counts.proofs.Written.{transaction-asked}
 use Rattle.outcome_spec.specs.Runs.{Span, run_of, transaction_of}
 use Rattle.outcome_judge.specs.Stale.{top_rule, commit_shown}
-use Rattle.outcome_judge.specs.declared.keys.Target.{Target}
 use Rattle.outcome_judge.specs.declared.stale.Commit.{Commit}
 use Rattle.outcome_judge.specs.declared.stale.Commit.TheVariants as commit
 use Rattle.outcome_judge.proofs.Threads.{commit-by, no-span, told-span}
@@ -50,30 +49,16 @@ returns-in-As c = λ tables none.
     (c.requires.spans.openings.there c.args.at s opening) shows
     (λ t opened. refl)
 
-pub returns-in-Stale-None-default : goal.returns-in-Stale-None-default
-returns-in-Stale-None-default c = λ tables none.
+pub returns-in-Stale : goal.returns-in-Stale
+returns-in-Stale c = λ tables none.
     let replies = c.args.replies.now in
     let es = entries_of replies in
     let run = run_of tables es in
     let entry = asked_at replies c.args.at none in
     let s : ℕ = c.in-Some.opening in
     let opening : opening_of c.args.spans.now.openings.items c.args.at ≡ Some s = sym c.opening_of.ensures.opening ∙ c.in-Some.is in
-    let shows = commit-by entry (entry_of c.index-replies-at.result) c.commit_shown.result (commit.Stale None c.in-Stale-None-default.field-1) (asked-is replies c.args.at c.index-replies-at.result none c.requires.asked.inside c.index-replies-at.is) c.commit_shown.ensures (c.in-Stale-None-default.is ∙ ap (λ (o : Option Target). commit.Stale o c.in-Stale-None-default.field-1) c.in-Stale-None-default.field-0-is) in
-    told-span (λ (t : Span) (its : Commit). top_rule (entries_of replies) entry its) (transaction_of run entry) (opened_at s es) (commit.Stale None c.in-Stale-None-default.field-1) (commit_shown entry.reply.said) true
+    let shows = commit-by entry (entry_of c.index-replies-at.result) c.commit_shown.result (commit.Stale c.in-Stale.what c.in-Stale.number) (asked-is replies c.args.at c.index-replies-at.result none c.requires.asked.inside c.index-replies-at.is) c.commit_shown.ensures c.in-Stale.is in
+    told-span (λ (t : Span) (its : Commit). top_rule (entries_of replies) entry its) (transaction_of run entry) (opened_at s es) (commit.Stale c.in-Stale.what c.in-Stale.number) (commit_shown entry.reply.said) c.is_highest_read.result
     (transaction-asked replies c.args.spans.now.openings.items c.requires.spans.openings c.args.at c.requires.asked.inside none ∙ ap (option_and_then (λ place. opened_at place es)) opening)
     (c.requires.spans.openings.there c.args.at s opening) shows
-    (λ t opened. refl)
-
-pub returns-in-Stale-Some-default : goal.returns-in-Stale-Some-default
-returns-in-Stale-Some-default c = λ tables none.
-    let replies = c.args.replies.now in
-    let es = entries_of replies in
-    let run = run_of tables es in
-    let entry = asked_at replies c.args.at none in
-    let s : ℕ = c.in-Some.opening in
-    let opening : opening_of c.args.spans.now.openings.items c.args.at ≡ Some s = sym c.opening_of.ensures.opening ∙ c.in-Some.is in
-    let shows = commit-by entry (entry_of c.index-replies-at.result) c.commit_shown.result (commit.Stale (Some c.in-Stale-Some-default.of) c.in-Stale-Some-default.number) (asked-is replies c.args.at c.index-replies-at.result none c.requires.asked.inside c.index-replies-at.is) c.commit_shown.ensures (c.in-Stale-Some-default.is ∙ ap (λ (o : Option Target). commit.Stale o c.in-Stale-Some-default.number) c.in-Stale-Some-default.field-0-is) in
-    told-span (λ (t : Span) (its : Commit). top_rule (entries_of replies) entry its) (transaction_of run entry) (opened_at s es) (commit.Stale (Some c.in-Stale-Some-default.of) c.in-Stale-Some-default.number) (commit_shown entry.reply.said) c.is_highest.result
-    (transaction-asked replies c.args.spans.now.openings.items c.requires.spans.openings c.args.at c.requires.asked.inside none ∙ ap (option_and_then (λ place. opened_at place es)) opening)
-    (c.requires.spans.openings.there c.args.at s opening) shows
-    (λ t opened. c.is_highest.ensures none)
+    (λ t opened. c.is_highest_read.ensures none)

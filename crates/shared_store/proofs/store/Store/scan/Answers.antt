@@ -1,7 +1,10 @@
-use Rattle.std.proofs.Common.{◌≡◌, Option, is_some, sym, ap, subst, ◌∙◌, arith}
+use Rattle.std.proofs.Common.{◌≡◌, List, Option, is_some, sym, ap, subst, ◌∙◌, arith}
 use Rattle.event_spec.specs.declared.own.OwnTransaction.{OwnTransaction}
 use Rattle.event_spec.specs.Parts.{Shape, blocks_of}
-use Rattle.isolation_spec.specs.Contents.{State}
+use Rattle.block_spec.specs.Slots.{Row}
+use Rattle.cell_model.specs.declared.column.Column.{Column}
+use Rattle.cell_model.specs.Rows.{Fits}
+use Rattle.event_spec.specs.Replay.{columns_in}
 use Rattle.workload_spec.specs.declared.command.Command.TheVariants.{Scan}
 use Rattle.workload_spec.specs.declared.reply.Said.{Said}
 use Rattle.workload_spec.specs.declared.reply.Said.TheVariants.{Scanned}
@@ -17,13 +20,13 @@ use Rattle.shared_store.proofs.Claims.{free_on, keeps_none}
 use Rattle.shared_store.proofs.Scanned.{ScansBy, read_once, scan_ends, scan_unread, scans_count, steps_begin, steps_break, steps_end, steps_go_on, steps_unlaid, scan_unlaid, unscanned}
 use Rattle.shared_store.proofs.Open.{measures_of}
 use Rattle.shared_store.proofs.ReadSets.{swept_finds, swept_session}
-use Rattle.shared_store.proofs.Stays.{scan_finds, scan_unlaid_finds, scan_unread_finds}
-use Rattle.std.specs.Prelude.{Ok}
+use Rattle.shared_store.proofs.Stays.{scan_finds, scan_once, scan_unlaid_finds, scan_unread_finds}
+use Rattle.std.specs.Prelude.{All, Ok}
 use Rattle.shared_store.proofs.store.Store.scan.Goals as goal
 
 pub loop-block-init : goal.loop-block-init
 loop-block-init g c own is =
-    subst (λ (state : State). ScansBy c.args.self.now c.args.session.now c.args.session.now own c.args.table 0 state c.args.steps.now c.args.steps.now) (sym c.new-by_place.ensures.empty)
+    subst (λ (read : List Row). ScansBy c.args.self.now c.args.session.now c.args.session.now own c.args.table 0 read c.args.steps.now c.args.steps.now) (sym c.new-read.ensures.items)
     (steps_begin c.args.self.now own c.args.table c.args.session.now c.args.steps.now c.requires.session)
 
 pub read_into-requires-clause-session : goal.read_into-requires-clause-session
@@ -35,7 +38,7 @@ pub read_into-requires-clause-room : goal.read_into-requires-clause-room
 read_into-requires-clause-room g c =
     let o = own_open c.args.session.now c.requires.busy in
     let s = (c.loop-block.invariant o.0 o.1).scans in
-    let many = scans_count c.args.self.now c.args.session.now c.loop-block.session o.0 c.args.table c.loop-block.block c.loop-block.by_place.entries s in
+    let many = scans_count c.args.self.now c.args.session.now c.loop-block.session o.0 c.args.table c.loop-block.block c.loop-block.read.items s in
     let count = s.went.count in
     let events = count_by-le-length is_event s.made in
     let room = c.requires.room in
@@ -72,7 +75,7 @@ returns-in_err-read_into-clause-answers g c =
     let below = c.loop-block-test.true in
     let end' = c.loop-block.auto.block-end in
     subst (λ (line : Said). Answers st c.args.session.now c.read_into.new.session (Scan c.args.table) line) (sym (unscanned c.from_residual.result c.from_residual.ensures.0))
-    (scan_unread st o.0 c.args.table c.args.session.now c.requires.session o.1 c.loop-block.session c.read_into.new.session c.loop-block.block c.loop-block.by_place.entries r.told
+    (scan_unread st o.0 c.args.table c.args.session.now c.requires.session o.1 c.loop-block.session c.read_into.new.session c.loop-block.block c.loop-block.read.items r.told
     (omega (arith, blocks, below, end')) s r.reads (keeps_none (free_on s.went.reads c.requires.free) r.free))
 
 pub returns-in_err-read_into-clause-steps : goal.returns-in_err-read_into-clause-steps
@@ -85,7 +88,7 @@ returns-in_err-read_into-clause-steps g c =
     let below = c.loop-block-test.true in
     let end' = c.loop-block.auto.block-end in
     subst (λ (line : Said). ReadsOnce st c.args.session.now c.read_into.new.session c.args.table line c.args.steps.now c.read_into.new.steps) (sym (unscanned c.from_residual.result c.from_residual.ensures.0))
-    (steps_break st o.0 c.args.table c.args.session.now c.loop-block.session c.read_into.new.session c.loop-block.block c.loop-block.by_place.entries r.told
+    (steps_break st o.0 c.args.table c.args.session.now c.loop-block.session c.read_into.new.session c.loop-block.block c.loop-block.read.items r.told
     c.args.steps.now c.loop-block.steps c.read_into.new.steps s r.reads (keeps_none (free_on s.scans.went.reads c.requires.free) r.free) (omega (arith, blocks, below, end')) r.few
     c.requires.session o.1 r.unlooked)
 
@@ -97,9 +100,9 @@ loop-block-preserved g c own is =
     let blocks : c.blocks-block-end.result ≡ blocks_of (shape_in st) c.args.table = c.blocks-block-end.ensures.blocks ∙ ap (λ (sh : Shape). blocks_of sh c.args.table) (c.shape-shape.ensures ∙ c.self.invariant.shape ∙ ap shape_in c.self.view_is) in
     let below = c.loop-block-test.true in
     let end' = c.loop-block.auto.block-end in
-    steps_go_on st own c.args.table c.args.session.now c.loop-block.session c.read_into.new.session c.loop-block.block c.loop-block.by_place.entries r.told
+    steps_go_on st own c.args.table c.args.session.now c.loop-block.session c.read_into.new.session c.loop-block.block c.loop-block.read.items r.told
     c.args.steps.now c.loop-block.steps c.read_into.new.steps s r.reads (keeps_none (free_on s.scans.went.reads c.requires.free) r.free) (omega (arith, blocks, below, end')) r.few
-    c.read_into.new.by_place.entries r.granted r.laid
+    c.read_into.new.rows.items r.granted r.rows
 
 pub read_into-requires-clause-free : goal.read_into-requires-clause-free
 read_into-requires-clause-free g c =
@@ -111,14 +114,14 @@ returns-in_err-read_into-clause-finds g c =
     let o = own_open c.args.session.now c.requires.busy in
     let s = (c.loop-block.invariant o.0 o.1).scans in
     let r = c.read_into.ensures o.0 (s.went.opened ∙ o.1) in
-    scan_unread_finds c.args.self.now c.args.session.now c.loop-block.session c.read_into.new.session o.0 c.args.table c.loop-block.block c.loop-block.by_place.entries r.told
+    scan_unread_finds c.args.self.now c.args.session.now c.loop-block.session c.read_into.new.session o.0 c.args.table c.loop-block.block c.loop-block.read.items r.told
     c.from_residual.result s r.reads c.from_residual.ensures.0
 
 pub returns-in_err-read_into-clause-few : goal.returns-in_err-read_into-clause-few
 returns-in_err-read_into-clause-few g c =
     let o = own_open c.args.session.now c.requires.busy in
     let s = (c.loop-block.invariant o.0 o.1).scans in
-    let many = scans_count c.args.self.now c.args.session.now c.loop-block.session o.0 c.args.table c.loop-block.block c.loop-block.by_place.entries s in
+    let many = scans_count c.args.self.now c.args.session.now c.loop-block.session o.0 c.args.table c.loop-block.block c.loop-block.read.items s in
     let count = s.went.count in
     let events = count_by-le-length is_event s.made in
     let r = (c.read_into.ensures o.0 (s.went.opened ∙ o.1)).reads in
@@ -149,7 +152,7 @@ returns-in_err-rows-clause-answers g c =
     let end' = c.loop-block.auto.block-end in
     let all : c.loop-block.block ≡ blocks_of (shape_in st) c.args.table = omega (arith, blocks, done, end') in
     subst (λ (line : Said). Answers st c.args.session.now c.loop-block.session (Scan c.args.table) line) (sym (unscanned c.from_residual-in_err-rows.result c.from_residual-in_err-rows.ensures.0))
-    (scan_unlaid st o.0 c.args.table c.args.session.now c.requires.session o.1 c.loop-block.session c.loop-block.block c.loop-block.by_place.entries (omega (arith, all)) s)
+    (scan_unlaid st o.0 c.args.table c.args.session.now c.requires.session o.1 c.loop-block.session c.loop-block.block c.loop-block.read.items (omega (arith, all)) s)
 
 pub returns-in_err-rows-clause-steps : goal.returns-in_err-rows-clause-steps
 returns-in_err-rows-clause-steps g c =
@@ -161,8 +164,8 @@ returns-in_err-rows-clause-steps g c =
     let end' = c.loop-block.auto.block-end in
     let all : c.loop-block.block ≡ blocks_of (shape_in st) c.args.table = omega (arith, blocks, done, end') in
     subst (λ (line : Said). ReadsOnce st c.args.session.now c.loop-block.session c.args.table line c.args.steps.now c.loop-block.steps) (sym (unscanned c.from_residual-in_err-rows.result c.from_residual-in_err-rows.ensures.0))
-    (steps_unlaid st o.0 c.args.table c.args.session.now c.loop-block.session c.loop-block.by_place.entries c.args.steps.now c.loop-block.steps c.requires.session o.1
-    (subst (λ k. ScansBy st c.args.session.now c.loop-block.session o.0 c.args.table k c.loop-block.by_place.entries c.args.steps.now c.loop-block.steps) all s))
+    (steps_unlaid st o.0 c.args.table c.args.session.now c.loop-block.session c.loop-block.read.items c.args.steps.now c.loop-block.steps c.requires.session o.1
+    (subst (λ k. ScansBy st c.args.session.now c.loop-block.session o.0 c.args.table k c.loop-block.read.items c.args.steps.now c.loop-block.steps) all s))
 
 pub returns-in_err-rows-clause-finds : goal.returns-in_err-rows-clause-finds
 returns-in_err-rows-clause-finds g c =
@@ -173,14 +176,14 @@ returns-in_err-rows-clause-finds g c =
     let done = c.loop-block-test.false in
     let end' = c.loop-block.auto.block-end in
     let all : c.loop-block.block ≡ blocks_of (shape_in st) c.args.table = omega (arith, blocks, done, end') in
-    scan_unlaid_finds st c.args.session.now c.loop-block.session o.0 c.args.table c.loop-block.by_place.entries c.from_residual-in_err-rows.result c.requires.session o.1
-    (subst (λ k. Scans st c.args.session.now c.loop-block.session o.0 c.args.table k c.loop-block.by_place.entries) all s) c.from_residual-in_err-rows.ensures.0
+    scan_unlaid_finds st c.args.session.now c.loop-block.session o.0 c.args.table c.loop-block.read.items c.from_residual-in_err-rows.result c.requires.session o.1
+    (subst (λ k. Scans st c.args.session.now c.loop-block.session o.0 c.args.table k c.loop-block.read.items) all s) c.from_residual-in_err-rows.ensures.0
 
 pub returns-in_err-rows-clause-few : goal.returns-in_err-rows-clause-few
 returns-in_err-rows-clause-few g c =
     let o = own_open c.args.session.now c.requires.busy in
     let s = (c.loop-block.invariant o.0 o.1).scans in
-    let many = scans_count c.args.self.now c.args.session.now c.loop-block.session o.0 c.args.table c.loop-block.block c.loop-block.by_place.entries s in
+    let many = scans_count c.args.self.now c.args.session.now c.loop-block.session o.0 c.args.table c.loop-block.block c.loop-block.read.items s in
     let count = s.went.count in
     let events = count_by-le-length is_event s.made in
     let few = c.blocks-block-end.ensures.few in
@@ -215,8 +218,10 @@ returns-clause-answers g c =
     let end' = c.loop-block.auto.block-end in
     let all : c.loop-block.block ≡ blocks_of (shape_in st) c.args.table = omega (arith, blocks, done, end') in
     subst (λ (reads : Option ReadSet). Answers st c.args.session.now (record { pass = c.loop-block.session.pass; session = c.loop-block.session.session; snapshot = c.loop-block.session.snapshot; writes = c.loop-block.session.writes; reads = reads }) (Scan c.args.table) (Scanned c.in_ok-rows.rows)) (sym c.mark.ensures)
-    (scan_ends st o.0 c.args.table c.args.session.now c.loop-block.session c.loop-block.by_place.entries c.in_ok-rows.rows c.requires.session o.1
-    (subst (λ k. Scans st c.args.session.now c.loop-block.session o.0 c.args.table k c.loop-block.by_place.entries) all s) c.in_ok-rows.ensures)
+    (scan_ends st o.0 c.args.table c.args.session.now c.loop-block.session c.loop-block.read.items c.in_ok-rows.rows c.requires.session o.1
+    (subst (λ k. Scans st c.args.session.now c.loop-block.session o.0 c.args.table k c.loop-block.read.items) all s)
+    (c.in_ok-rows.ensures c.args.table
+    (scan_once st c.args.session.now c.loop-block.session o.0 c.args.table c.loop-block.read.items c.requires.session o.1 (subst (λ k. Scans st c.args.session.now c.loop-block.session o.0 c.args.table k c.loop-block.read.items) all s))))
 
 pub returns-clause-steps : goal.returns-clause-steps
 returns-clause-steps g c =
@@ -228,8 +233,10 @@ returns-clause-steps g c =
     let end' = c.loop-block.auto.block-end in
     let all : c.loop-block.block ≡ blocks_of (shape_in st) c.args.table = omega (arith, blocks, done, end') in
     subst (λ (reads : Option ReadSet). ReadsOnce st c.args.session.now (record { pass = c.loop-block.session.pass; session = c.loop-block.session.session; snapshot = c.loop-block.session.snapshot; writes = c.loop-block.session.writes; reads = reads }) c.args.table (Scanned c.in_ok-rows.rows) c.args.steps.now c.loop-block.steps) (sym c.mark.ensures)
-    (steps_end st o.0 c.args.table c.args.session.now c.loop-block.session c.loop-block.by_place.entries c.args.steps.now c.loop-block.steps c.in_ok-rows.rows c.requires.session o.1
-    (subst (λ k. ScansBy st c.args.session.now c.loop-block.session o.0 c.args.table k c.loop-block.by_place.entries c.args.steps.now c.loop-block.steps) all s) c.in_ok-rows.ensures)
+    (steps_end st o.0 c.args.table c.args.session.now c.loop-block.session c.loop-block.read.items c.args.steps.now c.loop-block.steps c.in_ok-rows.rows c.requires.session o.1
+    (subst (λ k. ScansBy st c.args.session.now c.loop-block.session o.0 c.args.table k c.loop-block.read.items c.args.steps.now c.loop-block.steps) all s)
+    (c.in_ok-rows.ensures c.args.table
+    (scan_once st c.args.session.now c.loop-block.session o.0 c.args.table c.loop-block.read.items c.requires.session o.1 (subst (λ k. Scans st c.args.session.now c.loop-block.session o.0 c.args.table k c.loop-block.read.items) all s.scans))))
 
 pub returns-clause-finds : goal.returns-clause-finds
 returns-clause-finds g c =
@@ -242,16 +249,25 @@ returns-clause-finds g c =
     let all : c.loop-block.block ≡ blocks_of (shape_in st) c.args.table = omega (arith, blocks, done, end') in
     subst (λ (reads : Option ReadSet). FindsRows st c.args.session.now (record { pass = c.loop-block.session.pass; session = c.loop-block.session.session; snapshot = c.loop-block.session.snapshot; writes = c.loop-block.session.writes; reads = reads }) c.args.table (Ok c.in_ok-rows.rows)) (sym c.mark.ensures)
     (swept_finds st c.args.session.now c.loop-block.session c.args.table (Ok c.in_ok-rows.rows)
-    (scan_finds st c.args.session.now c.loop-block.session o.0 c.args.table c.loop-block.by_place.entries (Ok c.in_ok-rows.rows) c.requires.session o.1
-    (subst (λ k. Scans st c.args.session.now c.loop-block.session o.0 c.args.table k c.loop-block.by_place.entries) all s) c.in_ok-rows.ensures))
+    (scan_finds st c.args.session.now c.loop-block.session o.0 c.args.table c.loop-block.read.items (Ok c.in_ok-rows.rows) c.requires.session o.1
+    (subst (λ k. Scans st c.args.session.now c.loop-block.session o.0 c.args.table k c.loop-block.read.items) all s)
+    (c.in_ok-rows.ensures c.args.table
+    (scan_once st c.args.session.now c.loop-block.session o.0 c.args.table c.loop-block.read.items c.requires.session o.1 (subst (λ k. Scans st c.args.session.now c.loop-block.session o.0 c.args.table k c.loop-block.read.items) all s)))))
 
 pub returns-clause-few : goal.returns-clause-few
 returns-clause-few g c =
     let o = own_open c.args.session.now c.requires.busy in
     let s = (c.loop-block.invariant o.0 o.1).scans in
-    let many = scans_count c.args.self.now c.args.session.now c.loop-block.session o.0 c.args.table c.loop-block.block c.loop-block.by_place.entries s in
+    let many = scans_count c.args.self.now c.args.session.now c.loop-block.session o.0 c.args.table c.loop-block.block c.loop-block.read.items s in
     let count = s.went.count in
     let events = count_by-le-length is_event s.made in
     let few = c.blocks-block-end.ensures.few in
     let end' = c.loop-block.auto.block-end in
     omega (arith, many, count, events, few, end')
+
+pub rows_in_order-requires : goal.rows_in_order-requires
+rows_in_order-requires g c =
+    let o = own_open c.args.session.now c.requires.busy in
+    let s = (c.loop-block.invariant o.0 o.1).scans in
+    let columns = c.schema.ensures.columns ∙ ap (λ (sh : Shape). columns_in sh c.args.table) (c.shape-shape.ensures ∙ c.self.invariant.shape ∙ ap shape_in c.self.view_is) in
+    subst (λ (columns : List Column). All (Fits columns) c.loop-block.read.items) (sym columns) s.fits

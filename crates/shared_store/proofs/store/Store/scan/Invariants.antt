@@ -7,4 +7,4 @@ use Rattle.shared_store.proofs.store.Store.scan.Given as goal
 abbrev pub invariant-loop-block : goal.invariant-loop-block
 invariant-loop-block g l =
     (own : OwnTransaction) → own_of l.fn.session ≡ Some own
-    → ScansBy l.fn.self l.fn.session l.session own l.fn.table l.block l.by_place.entries l.fn.steps l.steps
+    → ScansBy l.fn.self l.fn.session l.session own l.fn.table l.block l.read.items l.fn.steps l.steps

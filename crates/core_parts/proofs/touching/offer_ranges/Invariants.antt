@@ -1,0 +1,9 @@
+use Rattle.std.proofs.Common.{◌≡◌, [], take}
+use Rattle.std.specs.List.{flat_map}
+use Rattle.core_parts.specs.Hands.{in_hand}
+use Rattle.core_parts.specs.Least.{offered_all}
+use Rattle.core_parts.specs.Touched.{names_ranged}
+use Rattle.core_parts.proofs.touching.offer_ranges.Given as goal
+
+abbrev pub invariant-loop-range : goal.invariant-loop-range
+invariant-loop-range l = l.least ≡ offered_all l.shape (flat_map (names_ranged l.shape (in_hand l.shape l.held) []) (take l.range-index l.range-items)) l.fn.least

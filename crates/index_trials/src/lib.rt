@@ -1,0 +1,5 @@
+//! Tests of the indexes of keys.
+#![tactic(auto)]
+
+#[cfg(test)]
+mod both;

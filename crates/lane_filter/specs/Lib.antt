@@ -1,0 +1,4 @@
+pub mod Totals
+pub mod Lanes
+pub mod Intervals
+pub mod Examples

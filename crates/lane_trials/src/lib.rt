@@ -1,0 +1,5 @@
+//! Tests of totals by lanes.
+#![tactic(auto)]
+
+#[cfg(test)]
+mod totals;

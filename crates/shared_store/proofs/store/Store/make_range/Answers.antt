@@ -1,0 +1,46 @@
+use Rattle.std.proofs.Common.{subst}
+use Rattle.run_spec.specs.Opened.{own_behind}
+use Rattle.shared_store.specs.Store.{IsStore, shape_in}
+use Rattle.shared_store.proofs.Made.{few_still, made_whole, may_make_held}
+use Rattle.shared_store.proofs.store.Store.make_range.Goals as goal
+
+pub take_by_marks-requires-clause-pass : goal.take_by_marks-requires-clause-pass
+take_by_marks-requires-clause-pass g c = (c.requires.may.session, c.requires.may.own, c.requires.may.at')
+
+pub make_held-reply-requires : goal.make_held-reply-requires
+make_held-reply-requires g c =
+    let s = c.args.pass.now in
+    let t = c.take_by_marks.new.pass in
+    let may = c.requires.may in
+    let takes = c.take_by_marks.ensures may.session may.own may.at' in
+    may_make_held c.args.self.now (subst IsStore c.self.view_is c.self.invariant) s.seat t.seat s.hands t.hands c.args.event may takes
+
+pub give_back-requires : goal.give_back-requires
+give_back-requires g c =
+    let may = c.requires.may in
+    let takes = c.take_by_marks.ensures may.session may.own may.at' in
+    let held = c.make_held-reply.ensures.made 0 may.session may.own takes.within may.mine in
+    (may.session, own_behind may.own c.args.event c.make_held-reply.result, held.within)
+
+pub returns-clause-made : goal.returns-clause-made
+returns-clause-made g c session own at' mine =
+    let s = c.args.pass.now in
+    let t = c.take_by_marks.new.pass in
+    let u = c.make_held-reply.new.pass in
+    let w = c.give_back.new.pass in
+    let told = c.make_held-reply.result in
+    let takes = c.take_by_marks.ensures session own at' in
+    let held = c.make_held-reply.ensures.made 0 session own takes.within mine in
+    let gives = c.give_back.ensures session (own_behind own c.args.event told) held.within in
+    made_whole c.args.self.now session s.seat t.seat u.seat w.seat t.hands u.hands w.hands own c.args.event told takes held gives
+
+pub returns-clause-steps : goal.returns-clause-steps
+returns-clause-steps g c =
+    let may = c.requires.may in
+    let u = c.make_held-reply.new.pass in
+    let w = c.give_back.new.pass in
+    let told = c.make_held-reply.result in
+    let takes = c.take_by_marks.ensures may.session may.own may.at' in
+    let held = c.make_held-reply.ensures.made 0 may.session may.own takes.within may.mine in
+    let gives = c.give_back.ensures may.session (own_behind may.own c.args.event told) held.within in
+    few_still (shape_in c.args.self.now) u.seat.me.0 w.seat.me.0 c.args.event told c.args.steps.now c.make_held-reply.new.steps gives.log c.make_held-reply.ensures.steps
