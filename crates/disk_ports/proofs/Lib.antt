@@ -1,0 +1,4 @@
+mod Laying
+mod Past
+mod Torn
+mod Anything

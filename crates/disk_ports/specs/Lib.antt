@@ -1,0 +1,5 @@
+pub mod Crashes
+pub mod FileSteps
+pub mod Files
+pub mod Memory
+pub mod Tears
