@@ -1,0 +1,4 @@
+pub mod LogText
+pub mod Commits
+pub mod Reading
+pub mod Laws
