@@ -1,4 +1,6 @@
-mod Laying
-mod Past
-mod Torn
 mod Anything
+pub mod Laying
+pub mod Moments
+mod Past
+pub mod Told
+mod Torn

@@ -3,8 +3,9 @@ use Rattle.std.proofs.Common.{◌≡◌, ◌⊎◌, inl, inr, ⊎_elim, ℕ, zer
 use Rattle.std.proofs.Common.{length, drop, map, refl, sym, ◌∙◌, ap, subst, arith}
 use Rattle.std.proofs.lemmas.List.{reverse-append}
 use Rattle.std.specs.Prelude.{reverse}
+use Rattle.byte_ports.specs.FaultPlan.{Plan}
 use Rattle.disk_ports.specs.Crashes.{Elapses, Leaves, LeavesJust, NoMore}
-use Rattle.disk_ports.specs.FileSteps.{Lays, Tears}
+use Rattle.disk_ports.specs.FileSteps.{Lays, Tears, TearsWithin}
 use Rattle.disk_ports.specs.Memory.{Held, HeldAt, Step, Asked, Wrote, Synced, Goes, Waits, outcomes}
 use Rattle.disk_ports.specs.Memory.{may_hold, held_since, step_of}
 use Rattle.disk_ports.specs.declared.memory.Call.{Call}
@@ -90,6 +91,36 @@ pub no_more_asked : (old new : Held) → Goes Asked old new → new.bytes ≡ ol
 no_more_asked old new goes same c (inl now) = inl (now ∙ same)
 no_more_asked old new goes same c (inr left) = inr (from_new Asked old new goes 0 c left)
 
+-- a call that was counted first
+pub goes_counted : (step : Held → Step) (old mid new : Held) (plan : Plan)
+    → mid ≡ record old { plan = plan } → Goes (step mid) mid new
+    → Goes (step (record old { plan = plan })) old new
+goes_counted step old mid new plan counted goes =
+    let g : Goes (step (record old { plan = plan })) (record old { plan = plan }) new =
+    subst (λ h. Goes (step h) h new) counted goes in
+    record { first = g.first; past = g.past; was = g.was }
+
+-- a call that was counted and then found no memory
+pub waits_refused : (old counted found new : Held) (plan after : Plan)
+    → counted ≡ record old { plan = plan } → found ≡ counted
+    → new ≡ record found { plan = after } → Waits old new
+waits_refused old counted found new plan after count same refused = record {
+  first = ap (λ (h : Held). h.first) refused ∙ ap (λ (h : Held). h.first) same
+      ∙ ap (λ (h : Held). h.first) count;
+  bytes = ap (λ (h : Held). h.bytes) refused ∙ ap (λ (h : Held). h.bytes) same
+      ∙ ap (λ (h : Held). h.bytes) count;
+  past = ap (λ (h : Held). h.past) refused ∙ ap (λ (h : Held). h.past) same
+      ∙ ap (λ (h : Held). h.past) count;
+}
+
+-- nothing changed
+pub waits_same : (old new : Held) → new ≡ old → Waits old new
+waits_same old new same = record {
+  first = ap (λ (h : Held). h.first) same;
+  bytes = ap (λ (h : Held). h.bytes) same;
+  past = ap (λ (h : Held). h.past) same;
+}
+
 -- the newest call is a write, by which the bytes were torn
 pub leaves_wrote : (at : ℕ) (piece : List ℕ) (old new : Held) → Goes (Wrote at piece) old new
     → Tears at (length piece) old.bytes new.bytes
@@ -109,3 +140,41 @@ just_synced old new goes same c (inr left) = from_new (Synced old.bytes) old new
 pub no_more_synced : (old new : Held) → Goes (Synced old.bytes) old new → new.bytes ≡ old.bytes
     → NoMore (may_hold old) (may_hold new)
 no_more_synced old new goes same c now = inl (just_synced old new goes same c now)
+
+-- a call that was kept
+pub goes_kept : (step : Step) (old new : Held) → new ≡ record old { past = step ∷ old.past }
+    → outcomes old.first old.past old.bytes → Goes step old new
+goes_kept step old new kept was = record {
+  first = ap (λ (h : Held). h.first) kept;
+  past = ap (λ (h : Held). h.past) kept;
+  was = was;
+}
+
+-- a write that was kept and changed no byte
+pub leaves_kept : (at : ℕ) (kept piece : List ℕ) (old new : Held) → kept ≡ piece
+    → Goes (Wrote at kept) old new → new.bytes ≡ old.bytes
+    → Leaves at (length piece) (may_hold old) (may_hold new)
+leaves_kept at kept piece old new is goes same =
+    leaves_wrote at piece old new (subst (λ p. Goes (Wrote at p) old new) is goes)
+    (subst (Tears at (length piece) old.bytes) (sym same) (tears_same at (length piece) old.bytes))
+
+pub leaves_same : (at count : ℕ) (held : Held) → Leaves at count (may_hold held) (may_hold held)
+leaves_same at count held c now = (c, now, tears_same at count c)
+
+pub torn_same : (at count : ℕ) (old new : List ℕ) → new ≡ old → TearsWithin at count old new
+torn_same at count old new same = record {
+  tears = subst (Tears at count old) (sym same) (tears_same at count old);
+  within = omega (arith, ap length same);
+}
+
+-- what a crash may leave behind a write that was laid
+pub laid_outcomes : (old : Held) (first new : List ℕ) (past : List Step) (at : ℕ)
+    (kept piece : List ℕ) → first ≡ old.first → past ≡ Wrote at kept ∷ old.past → kept ≡ piece
+    → outcomes old.first old.past old.bytes → Lays at piece old.bytes new → outcomes first past new
+laid_outcomes old first new past at kept piece first_is past_is is was laid =
+    subst (λ (p : List Step). outcomes first p new) (sym past_is) (
+      old.bytes,
+      subst (λ f. outcomes f old.past old.bytes) (sym first_is) was,
+      subst (λ k. Tears at (length k) old.bytes new) (sym is)
+          (tears_laid at piece old.bytes new laid),
+    )

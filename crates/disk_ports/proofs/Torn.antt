@@ -23,11 +23,11 @@ part_fits tear.Back piece =
     omega (
       arith,
       length-append (replicate (length piece / 2) 0) (drop (length piece / 2) piece),
-      length-replicate (length piece / 2) 0,
+      length-replicate {A = ℕ} (length piece / 2) 0,
       length-drop (length piece / 2) piece,
     )
 part_fits tear.Whole piece = omega arith
-part_fits (tear.Filled byte) piece = omega (arith, length-replicate (length piece) byte)
+part_fits (tear.Filled byte) piece = omega (arith, length-replicate {A = ℕ} (length piece) byte)
 
 pub torn_outcomes : (how : Tear) (first : List ℕ) (past : List Step) (c : List ℕ)
     → TornBy how first past c → outcomes first past c
@@ -66,5 +66,28 @@ first_calls calls count within =
     ∙ map-append step_of (reverse (drop count calls)) (reverse (take count calls)))
     ∙ drop_at (map step_of (reverse (drop count calls))) (map step_of (reverse (take count calls)))
     (length calls - count)
-    (length-map step_of (reverse (drop count calls)) ∙ length-reverse (drop count calls)
+    (length-map (reverse (drop count calls)) step_of ∙ length-reverse (drop count calls)
     ∙ length-drop count calls)
+
+-- what a crash left behind the first calls is among what it may have left from then on
+pub left_from : (how : Tear) (held : Held) (first : List ℕ) (calls made : List Call) (count : ℕ)
+    (bytes : List ℕ) → held.past ≡ map step_of (reverse calls) → first ≡ held.first
+    → made ≡ take count calls → count ≤ length held.past
+    → TornBy how first (map step_of (reverse made)) bytes → held_since held count bytes
+left_from how held first calls made count bytes past_is first_is made_is within torn = inr (record {
+  back = length held.past - count;
+  from = omega (arith, length-drop (length held.past - count) held.past, within);
+  left = torn_outcomes how held.first (drop (length held.past - count) held.past) bytes
+      (subst (λ (p : List Step). TornBy how held.first p bytes) (sym behind)
+      (subst (λ f. TornBy how f (map step_of (reverse made)) bytes) first_is torn));
+})
+  where
+    size : length held.past ≡ length calls
+    size = ap length past_is ∙ length-map (reverse calls) step_of ∙ length-reverse calls
+
+    behind : drop (length held.past - count) held.past ≡ map step_of (reverse made)
+    behind =
+        ap (λ (p : List Step). drop (length held.past - count) p) past_is
+        ∙ ap (λ n. drop (n - count) (map step_of (reverse calls))) size
+        ∙ first_calls calls count (omega (arith, within, size))
+        ∙ ap (λ (l : List Call). map step_of (reverse l)) (sym made_is)

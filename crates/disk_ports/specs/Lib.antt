@@ -1,4 +1,5 @@
 pub mod Crashes
+pub mod Examples
 pub mod FileSteps
 pub mod Files
 pub mod Memory

@@ -69,6 +69,12 @@ pub record Waits (old new : Held) : Type 0 where
 pub stays : (held : Held) (file : List ℕ) → Some held.bytes ≡ Some file → may_hold held file
 stays held file is = inl (sym (ap (λ (o : Option (List ℕ)). unwrap_or o []) is))
 
+pub since_earlier : (held : Held) (t u : ℕ) (c : List ℕ) → t ≤ u → held_since held u c
+    → held_since held t c
+since_earlier held t u c le (inl now) = inl now
+since_earlier held t u c le (inr left) =
+    inr (record { back = left.back; from = le_trans le left.from; left = left.left })
+
 pub at_now : (held : Held) (t : ℕ) (c : List ℕ) → t ≤ length held.past → may_hold held c
     → held_since held t c
 at_now held t c le (inl now) = inl now

@@ -98,6 +98,10 @@ pub trait Disk {
     ghost told_stays: { (disk : Self) (file : List ℕ) → told disk ≡ Some file
         → may_leave disk file };
 
+    // A moment from a later one on is one from an earlier one on too.
+    ghost since_earlier: { (disk : Self) (t u : ℕ) (c : List ℕ) → t ≤ u → left_since disk u c
+        → left_since disk t c };
+
     // This moment is one of those since an earlier one.
     ghost counts_now: { (disk : Self) (t : ℕ) (c : List ℕ) → t ≤ moment disk → may_leave disk c
         → left_since disk t c };

@@ -59,15 +59,15 @@ impl<F: Files<File = File>> MountFiles for SystemMounts<F> {
     ghost number = { λ file. ⟦<File as AsRawFd>⟧.raw_fd file };
 
     /// Opens or makes a file, and fails where another open of it holds the lock. The file and its
-    /// folder are synced, and the system is asked to drop its copies of the file's pages: where a
-    /// sync of an earlier process failed, these may be other than what is on the disk.
+    /// folder are synced, so that a file that was made is there after a crash. Where a sync of an
+    /// earlier process failed, the system may still read pages that never came to the disk: no call
+    /// of std drops them.
     fn open(&self, name: &str) -> io::Result<File>
         ensures apart { IfOk result (λ file. IsApart (⟦<File as AsRawFd>⟧.raw_fd file)) }
     {
         let file = open_apart(&self.rt, name)?;
         file.try_lock()?;
         file.sync_all()?;
-        drop_pages(&file)?;
         sync_folder(&self.rt, name)?;
         Ok(file)
     }
@@ -99,14 +99,6 @@ fn is_apart(number: i32) -> bool
     ensures { result ≡ true → IsApart (Some number) }
 {
     LAST_STANDARD < number
-}
-
-/// Asks the system to drop its copies of a file's pages, so that a read gives what is on the disk.
-fn drop_pages(file: &File) -> io::Result<()> {
-    match libc::posix_fadvise(file.as_raw_fd(), 0, 0, libc::POSIX_FADV_DONTNEED) {
-        0 => Ok(()),
-        code => Err(io::Error::from_raw_os_error(code)),
-    }
 }
 
 /// Syncs the folder of a path, without which a file that was made there may be gone after a crash.
@@ -305,6 +297,8 @@ impl<M: MountFiles> Disk for FileDisk<M> {
     ghost names_told = { λ _. refl };
 
     ghost told_stays = { λ _ _ _. tt };
+
+    ghost since_earlier = { λ _ _ _ _ _ _. tt };
 
     ghost counts_now = { λ _ _ _ _ _. tt };
 

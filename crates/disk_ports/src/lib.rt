@@ -4,6 +4,7 @@
 
 mod counts;
 mod disk;
+pub mod examples;
 mod files;
 mod memory;
 mod pieces;

@@ -107,7 +107,8 @@ impl MemoryDisk {
         ensures left { IfOk result (λ bytes. held_since self.now calls bytes.items) }
     {
         let (made, _) = self.calls.split_at(calls);
-        left_by(alloc, &self.first, made, tear)
+        let bytes = left_by(alloc, &self.first, made, tear)?;
+        Ok(bytes)
     }
 
     /// The names that the disk was started with, the first first.
@@ -191,16 +192,22 @@ impl MemoryDisk {
     }
 
     /// Keeps a write that failed, where there is memory for it: it may have been done in part.
-    fn keep_failed(&mut self, at: u64, piece: &[u8]) -> Result<(), AllocError>
+    fn keep_failed(&mut self, at: u64, piece: &[u8])
         requires { outcomes self.old.first self.old.past self.old.bytes }
-        ensures goes { OnOk result (Goes (Wrote at piece.now) self.old self.new) }
         ensures bytes { self.new.bytes ≡ self.old.bytes }
-        ensures err { OnErr result (self.new ≡ self.old) }
+        ensures crash { Leaves at (length piece.now) (may_hold self.old) (may_hold self.new) }
+        ensures time { Elapses (length self.old.past) (length self.new.past) (held_since self.old)
+            (held_since self.new) (may_hold self.new) }
         ensures started { self.new.started ≡ self.old.started }
         ensures plan { self.new.plan ≡ self.old.plan }
     {
-        let piece = Vec::from_slice(self.alloc, piece)?;
-        self.note(Call::Wrote { at, piece })
+        let Ok(piece) = Vec::from_slice(self.alloc, piece) else {
+            return;
+        };
+        match self.note(Call::Wrote { at, piece }) {
+            Ok(()) => {}
+            Err(AllocError) => {}
+        }
     }
 
     /// Puts the bytes on the disk.
@@ -218,7 +225,7 @@ impl MemoryDisk {
 
 impl Disk for MemoryDisk {
     ghost use Rattle.std.specs.Prelude.{Some, length};
-    ghost use Rattle.disk_ports.specs.Memory.{may_hold, held_since, stays, at_now, now_only};
+    ghost use Rattle.disk_ports.specs.Memory.{may_hold, held_since, stays, since_earlier, at_now, now_only};
 
     ghost told = { λ d. Some d.bytes };
 
@@ -272,10 +279,10 @@ impl Disk for MemoryDisk {
         ensures plan { self.new.plan ≡ after_call self.old.plan (is_err result) }
         ensures past { OnOk result (self.new.past ≡ Asked ∷ self.old.past) }
     {
-        match self.ask() {
-            Ok(()) => Ok(self.bytes.len() as u64),
-            Err(failed) => Err(failed),
+        if let Err(failed) = self.ask() {
+            return Err(failed);
         }
+        Ok(self.bytes.len() as u64)
     }
 
     /// Reads as many bytes as stand from the place on and have room. Besides a call in the list of
@@ -296,10 +303,10 @@ impl Disk for MemoryDisk {
         ensures plan { self.new.plan ≡ after_call self.old.plan (is_err result) }
         ensures past { OnOk result (self.new.past ≡ Asked ∷ self.old.past) }
     {
-        match self.ask() {
-            Ok(()) => Ok(read_front(rest_of(&self.bytes, at as usize), buf)),
-            Err(failed) => Err(failed),
+        if let Err(failed) = self.ask() {
+            return Err(failed);
         }
+        Ok(read_front(rest_of(&self.bytes, at as usize), buf))
     }
 
     /// Lays the piece; a gap holds zeros. Besides a call in the list of failing calls, only one
@@ -320,9 +327,8 @@ impl Disk for MemoryDisk {
         ensures same { OnErr result (self.new.bytes ≡ self.old.bytes) }
     {
         if let Err(failed) = self.count_call() {
-            return match self.keep_failed(at, piece) {
-                Ok(()) | Err(AllocError) => Err(failed),
-            };
+            self.keep_failed(at, piece);
+            return Err(failed);
         }
         match self.lay(at, piece) {
             Ok(()) => Ok(()),
@@ -360,6 +366,8 @@ impl Disk for MemoryDisk {
     ghost names_told = { λ _. refl };
 
     ghost told_stays = { stays };
+
+    ghost since_earlier = { since_earlier };
 
     ghost counts_now = { at_now };
 
