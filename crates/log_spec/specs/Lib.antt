@@ -2,3 +2,4 @@ pub mod LogText
 pub mod Commits
 pub mod Reading
 pub mod Laws
+pub mod Examples
