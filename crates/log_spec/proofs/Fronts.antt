@@ -43,22 +43,13 @@ sized_front a b x y la lb is = (same, rest)
 
 -- ---- cells
 
--- The cell's number has 128 bits.
-abbrev pub HasBits : Cell → Type 0
-HasBits Null = Unit {0}
-HasBits (Num number) = FitsSigned w128 number
-HasBits (Truth truth) = Unit {0}
-HasBits (Text text) = Unit {0}
-HasBits (Blob bytes) = Unit {0}
-
--- The cell can be told by its text.
-pub record IsTold (cell : Cell) : Type 0 where
-  pub bits : HasBits cell
-  pub short : length (cell_text cell) < 2 ^ 32
-
--- the bytes of a cell are shorter than its text
-bytes_short : (bytes : List ℕ) (kind : ℕ) → length (kind ∷ sized bytes) < 2 ^ 32 → length bytes < 2 ^ 32
-bytes_short bytes kind short = omega (arith, length-append (to_le_bytes w32 (length bytes)) bytes)
+-- The cell can be told by its text: its number has 128 bits, its length 32.
+abbrev pub IsTold : Cell → Type 0
+IsTold Null = Unit {0}
+IsTold (Num number) = FitsSigned w128 number
+IsTold (Truth truth) = Unit {0}
+IsTold (Text text) = length text < 2 ^ 32
+IsTold (Blob bytes) = length bytes < 2 ^ 32
 
 truth_front : (s t : Bool) (x y : List ℕ) → (if s then 1 else 0) ∷ x ≡ (if t then 1 else 0) ∷ y → (s ≡ t) × (x ≡ y)
 truth_front true true x y is = (refl, tail_is 1 1 x y is)
@@ -74,7 +65,7 @@ cell_front Null (Text t) x y tc td is = apart 0 3 _ _ refl is
 cell_front Null (Blob b) x y tc td is = apart 0 4 _ _ refl is
 cell_front (Num m) Null x y tc td is = apart 1 0 _ _ refl is
 cell_front (Num m) (Num n) x y tc td is =
-    let found = signed_front m n x y tc.bits td.bits (ap (λ (l : List ℕ). drop 1 l) is) in (ap (λ v. Num v) found.0, found.1)
+    let found = signed_front m n x y tc td (ap (λ (l : List ℕ). drop 1 l) is) in (ap (λ v. Num v) found.0, found.1)
 cell_front (Num m) (Truth t) x y tc td is = apart 1 2 _ _ refl is
 cell_front (Num m) (Text t) x y tc td is = apart 1 3 _ _ refl is
 cell_front (Num m) (Blob b) x y tc td is = apart 1 4 _ _ refl is
@@ -88,7 +79,7 @@ cell_front (Text a) Null x y tc td is = apart 3 0 _ _ refl is
 cell_front (Text a) (Num n) x y tc td is = apart 3 1 _ _ refl is
 cell_front (Text a) (Truth t) x y tc td is = apart 3 2 _ _ refl is
 cell_front (Text a) (Text b) x y tc td is =
-    let found = sized_front a b x y (bytes_short a 3 tc.short) (bytes_short b 3 td.short) (ap (λ (l : List ℕ). drop 1 l) is) in
+    let found = sized_front a b x y tc td (ap (λ (l : List ℕ). drop 1 l) is) in
     (ap (λ v. Text v) found.0, found.1)
 cell_front (Text a) (Blob b) x y tc td is = apart 3 4 _ _ refl is
 cell_front (Blob a) Null x y tc td is = apart 4 0 _ _ refl is
@@ -96,7 +87,7 @@ cell_front (Blob a) (Num n) x y tc td is = apart 4 1 _ _ refl is
 cell_front (Blob a) (Truth t) x y tc td is = apart 4 2 _ _ refl is
 cell_front (Blob a) (Text b) x y tc td is = apart 4 3 _ _ refl is
 cell_front (Blob a) (Blob b) x y tc td is =
-    let found = sized_front a b x y (bytes_short a 4 tc.short) (bytes_short b 4 td.short) (ap (λ (l : List ℕ). drop 1 l) is) in
+    let found = sized_front a b x y tc td (ap (λ (l : List ℕ). drop 1 l) is) in
     (ap (λ v. Blob v) found.0, found.1)
 
 -- ---- several items
@@ -113,23 +104,36 @@ module _ {X : Type 0} (text : X → List ℕ) where
   few_items some [] = omega arith
   few_items some (item ∷ items) = omega (arith, length-append (text item) (flat_map text items), some item, few_items some items)
 
-  module _ (P : X → Type 0) (front : (a b : X) (x y : List ℕ) → P a → P b → text a ++ x ≡ text b ++ y → (a ≡ b) × (x ≡ y)) where
+  module _ (P Q : X → Type 0) (front : (a b : X) (x y : List ℕ) → P a → Q b → text a ++ x ≡ text b ++ y → (a ≡ b) × (x ≡ y)) where
     -- so many items, and what stands behind them
-    pub items_front : (us vs : List X) (x y : List ℕ) → AllByRecursion P us → AllByRecursion P vs → length us ≡ length vs
+    pub items_front : (us vs : List X) (x y : List ℕ) → AllByRecursion P us → AllByRecursion Q vs → length us ≡ length vs
         → flat_map text us ++ x ≡ flat_map text vs ++ y → (us ≡ vs) × (x ≡ y)
-    items_front [] [] x y pa pb same is = (refl, is)
-    items_front [] (b ∷ vs) x y pa pb same is = absurd (omega (arith, same))
-    items_front (a ∷ us) [] x y pa pb same is = absurd (omega (arith, same))
-    items_front (a ∷ us) (b ∷ vs) x y pa pb same is =
-        let parted = sym (append_assoc (text a) (flat_map text us) x) ∙ is ∙ append_assoc (text b) (flat_map text vs) y in
-        let first = front a b (flat_map text us ++ x) (flat_map text vs ++ y) pa.0 pb.0 parted in
-        let others = items_front us vs x y pa.1 pb.1 (omega (arith, same)) first.1 in
+    items_front [] [] x y pu qv same is = (refl, is)
+    items_front [] (v ∷ vs) x y pu qv same is = absurd (omega (arith, same))
+    items_front (u ∷ us) [] x y pu qv same is = absurd (omega (arith, same))
+    items_front (u ∷ us) (v ∷ vs) x y pu qv same is =
+        let parted = sym (append_assoc (text u) (flat_map text us) x) ∙ is ∙ append_assoc (text v) (flat_map text vs) y in
+        let first = front u v (flat_map text us ++ x) (flat_map text vs ++ y) pu.0 qv.0 parted in
+        let others = items_front us vs x y pu.1 qv.1 (omega (arith, same)) first.1 in
         ((λ i. first.0 i ∷ others.0 i), others.1)
 
     -- items behind their count, and what stands behind them
-    pub counted_front : (us vs : List X) (x y : List ℕ) → AllByRecursion P us → AllByRecursion P vs → length us < 2 ^ 32 → length vs < 2 ^ 32
+    pub counted_front : (us vs : List X) (x y : List ℕ) → AllByRecursion P us → AllByRecursion Q vs → length us < 2 ^ 32 → length vs < 2 ^ 32
         → counted text us ++ x ≡ counted text vs ++ y → (us ≡ vs) × (x ≡ y)
-    counted_front us vs x y pa pb la lb is =
+    counted_front us vs x y pu qv lu lv is =
         let parted = sym (append_assoc (to_le_bytes w32 (length us)) (flat_map text us) x) ∙ is ∙ append_assoc (to_le_bytes w32 (length vs)) (flat_map text vs) y in
-        let found = count_front (length us) (length vs) (flat_map text us ++ x) (flat_map text vs ++ y) la lb parted in
-        items_front us vs x y pa pb found.0 found.1
+        let found = count_front (length us) (length vs) (flat_map text us ++ x) (flat_map text vs ++ y) lu lv parted in
+        items_front us vs x y pu qv found.0 found.1
+
+    -- what stands behind some first ones of the items: the next one, and the later ones
+    pub next_front : (us vs : List X) (x y : List ℕ) → AllByRecursion P us → AllByRecursion Q vs → length us < length vs
+        → flat_map text us ++ x ≡ flat_map text vs ++ y
+        → (v : X) × (later : List X) × (vs ≡ us ++ v ∷ later) × Q v × (x ≡ text v ++ (flat_map text later ++ y))
+    next_front [] [] x y pu qv few is = absurd (omega (arith, few))
+    next_front [] (v ∷ vs) x y pu qv few is = (v, vs, refl, qv.0, is ∙ append_assoc (text v) (flat_map text vs) y)
+    next_front (u ∷ us) [] x y pu qv few is = absurd (omega (arith, few))
+    next_front (u ∷ us) (v ∷ vs) x y pu qv few is =
+        let parted = sym (append_assoc (text u) (flat_map text us) x) ∙ is ∙ append_assoc (text v) (flat_map text vs) y in
+        let first = front u v (flat_map text us ++ x) (flat_map text vs ++ y) pu.0 qv.0 parted in
+        let found = next_front us vs x y pu.1 qv.1 (omega (arith, few)) first.1 in
+        (found.0, found.1, (λ i. (sym first.0) i ∷ found.2 i), found.3, found.4)

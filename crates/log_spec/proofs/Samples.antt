@@ -24,7 +24,7 @@ use Rattle.log_spec.specs.Reading.{BeginsRecord, IsGroupOf, IsNoLog}
 use Rattle.log_spec.proofs.Commits.{group_front, set_some, table_there, write_some}
 use Rattle.log_spec.proofs.Fronts.{few_items, head_is, no_nil, tail_is}
 use Rattle.log_spec.proofs.Numbers.{count_front}
-use Rattle.log_spec.proofs.Values.{row_told}
+use Rattle.log_spec.proofs.Values.{row_each, zip_length}
 
 -- ---- commits
 
@@ -292,7 +292,7 @@ no_such_cell (Blob b) is = absurd (omega (arith, head_is 4 2 _ _ is))
 
 -- the second cell of a row of the second table
 no_such_row : (row : List Cell) → Fits truth_columns row → flat_map cell_text (drop 1 row) ≡ 2 ∷ 2 ∷ [] → ⊥
-no_such_row row fits is = go row (row_told truth_columns row fits).0 is
+no_such_row row fits is = go row (zip_length truth_columns row (row_each truth_columns row fits)) is
   where
     go : (row : List Cell) → length row ≡ 2 → flat_map cell_text (drop 1 row) ≡ 2 ∷ 2 ∷ [] → ⊥
     go [] two is = absurd (omega (arith, two))

@@ -1,8 +1,8 @@
--- Cells that fit their columns can be told by their texts.
-use Rattle.std.proofs.Common.{◌≡◌, ◌⊎◌, inl, inr, ℕ, ◌+◌, Bool, true, false, not, cond, eqb, List, [], ◌∷◌, length, drop, refl, sym, ◌∙◌, ap, arith}
+-- Rows that fit their columns: their cells can be told by their texts, and the first is the key.
+use Rattle.std.proofs.Common.{◌≡◌, ◌⊎◌, inl, inr, ℕ, suc, ◌+◌, ◌<◌, Bool, true, false, not, cond, eqb, List, [], ◌∷◌, length, drop, length-append, refl, sym, ◌∙◌, ap, arith}
 use Rattle.std.specs.Prelude.{ℤ, pos, negsuc, ◌≤ℤ◌, ◌^◌, ◌-◌, ◌≢◌, ◌&&◌, int_le, FitsSigned, Option, None, Some, is_none, nat_lt, bytes_eq, codes}
-use Rattle.std.specs.Int.{w64, w128}
-use Rattle.std.specs.List.{AllByRecursion}
+use Rattle.std.specs.Int.{w32, w64, w128, to_le_bytes}
+use Rattle.std.specs.List.{AllByRecursion, AllZip}
 use Rattle.std.proofs.lemmas.Int.{ints}
 use Rattle.std.proofs.lemmas.Bool.Decides.{eqb_tells}
 use Rattle.cell_model.specs.declared.cell.Cell.{Cell}
@@ -17,10 +17,11 @@ use Rattle.cell_model.specs.declared.values.Values.TheVariants.{Signed, Unsigned
 use Rattle.cell_model.specs.declared.width.NumberWidth.TheVariants as number
 use Rattle.cell_model.specs.Kinds.{values_of}
 use Rattle.cell_model.specs.Rows.{cell_fault, first_fault, Fits}
-use Rattle.cell_model.specs.Values.{is_between, is_integer_in, is_integer_of, is_value_of, most_bytes_of}
+use Rattle.cell_model.specs.Values.{byte_length, is_between, is_integer_in, is_integer_of, is_null, is_value_of, most_bytes_of}
 use Rattle.cell_model.specs.Schemas.{begins_with_key, is_i64}
 use Rattle.isolation_spec.specs.Contents.{key_of}
-use Rattle.log_spec.proofs.Fronts.{HasBits}
+use Rattle.log_spec.specs.LogText.{cell_text, sized}
+use Rattle.log_spec.proofs.Fronts.{IsTold}
 
 -- a number between two of 128 bits has them
 between_fits : (low high n : ℤ) → negsuc (2 ^ 127 - 1) ≤ℤ low → high ≤ℤ pos (2 ^ 127 - 1) → is_between low high n ≡ true → FitsSigned w128 n
@@ -46,44 +47,91 @@ integer_fits (Texts width) n is = cc
 integer_fits (Blobs width) n is = cc
 integer_fits (Strips bytes) n is = cc
 
-value_bits : (column : Column) (cell : Cell) → is_value_of column.kind cell ≡ true → HasBits cell
-value_bits column Null is = tt
-value_bits column (Num n) is = integer_fits (values_of column.kind) n is
-value_bits column (Truth t) is = tt
-value_bits column (Text t) is = tt
-value_bits column (Blob b) is = tt
+-- ---- cells of a row
 
--- a cell without a fault has 128 bits
-pub cell_bits : (at : ℕ) (column : Column) (cell : Cell) → cell_fault at column cell ≡ None → HasBits cell
-cell_bits at column Null fits = tt
-cell_bits at column (Num n) fits = go (is_value_of column.kind (Num n)) refl fits
+-- The cell keeps the rules of its column.
+abbrev pub CellFits : Column → Cell → Type 0
+CellFits column cell = cell_fault 0 column cell ≡ None
+
+-- a cell's fault does not come from its column's number
+fault_any : (i j : ℕ) (column : Column) (cell : Cell) → cell_fault i column cell ≡ None → cell_fault j column cell ≡ None
+fault_any i j column cell = go (is_null cell) column.nullable (not (is_value_of column.kind cell)) (nat_lt (most_bytes_of column.kind) (byte_length cell))
+  where
+    go : (null nullable other long : Bool)
+        → cond null (cond nullable None (Some (NullAt i))) (cond other (Some (RangeAt i)) (cond long (Some (LongAt i)) None)) ≡ None
+        → cond null (cond nullable None (Some (NullAt j))) (cond other (Some (RangeAt j)) (cond long (Some (LongAt j)) None)) ≡ None
+    go true true other long h = refl
+    go true false other long h = cc
+    go false nullable true long h = cc
+    go false nullable false true h = cc
+    go false nullable false false h = refl
+
+-- where no cell is the first with a fault, each keeps its column's rules
+first_each : (at : ℕ) (columns : List Column) (cells : List Cell) → length cells ≡ length columns → first_fault at columns cells ≡ None → AllZip CellFits columns cells
+first_each at [] [] long h = tt
+first_each at [] (x ∷ xs) long h = absurd (omega (arith, long))
+first_each at (c ∷ cs) [] long h = absurd (omega (arith, long))
+first_each at (c ∷ cs) (x ∷ xs) long h = go (cell_fault at c x) refl h (λ h. first_each (at + 1) cs xs (omega (arith, long)) h)
+  where
+    go : (fault : Option RowFault) → cell_fault at c x ≡ fault → cond (is_none fault) (first_fault (at + 1) cs xs) fault ≡ None
+        → (first_fault (at + 1) cs xs ≡ None → AllZip CellFits cs xs) → CellFits c x × AllZip CellFits cs xs
+    go None is h rest = (fault_any at 0 c x is, rest h)
+    go (Some f) is h rest = cc
+
+-- where each cell keeps its column's rules, none is the first with a fault
+each_first : (at : ℕ) (columns : List Column) (cells : List Cell) → AllZip CellFits columns cells → first_fault at columns cells ≡ None
+each_first at [] [] each = refl
+each_first at [] (x ∷ xs) each = absurd each
+each_first at (c ∷ cs) [] each = absurd each
+each_first at (c ∷ cs) (x ∷ xs) each =
+    ap (λ (f : Option RowFault). cond (is_none f) (first_fault (at + 1) cs xs) f) (fault_any 0 at c x each.0) ∙ each_first (at + 1) cs xs each.1
+
+-- a row that fits has a cell for each column, which keeps its rules
+pub row_each : (columns : List Column) (row : List Cell) → Fits columns row → AllZip CellFits columns row
+row_each columns row fits = go (eqb_tells (length row) (length columns))
+  where
+    go : ((eqb (length row) (length columns) ≡ true) × (length row ≡ length columns)) ⊎ ((eqb (length row) (length columns) ≡ false) × (length row ≢ length columns)) → AllZip CellFits columns row
+    go (inl same) = first_each 0 columns row same.1 (sym (ap (λ b. cond b (first_fault 0 columns row) (Some Arity)) same.0) ∙ fits)
+    go (inr other) = let never : Some Arity ≡ None = sym (ap (λ b. cond b (first_fault 0 columns row) (Some Arity)) other.0) ∙ fits in cc
+
+pub zip_length : (columns : List Column) (row : List Cell) → AllZip CellFits columns row → length row ≡ length columns
+zip_length [] [] each = refl
+zip_length [] (x ∷ xs) each = absurd each
+zip_length (c ∷ cs) [] each = absurd each
+zip_length (c ∷ cs) (x ∷ xs) each = ap suc (zip_length cs xs each.1)
+
+-- a row with such cells fits
+pub each_row : (columns : List Column) (row : List Cell) → AllZip CellFits columns row → Fits columns row
+each_row columns row each =
+    ap (λ b. cond b (first_fault 0 columns row) (Some Arity)) (eqb_true (length row) (length columns) (zip_length columns row each)) ∙ each_first 0 columns row each
+  where
+    eqb_true : (a b : ℕ) → a ≡ b → eqb a b ≡ true
+    eqb_true a b same = grind arith
+
+-- ---- cells can be told
+
+-- the bytes of a cell are shorter than its text
+bytes_short : (bytes : List ℕ) (kind : ℕ) → length (kind ∷ sized bytes) < 2 ^ 32 → length bytes < 2 ^ 32
+bytes_short bytes kind short = omega (arith, length-append (to_le_bytes w32 (length bytes)) bytes)
+
+cell_told : (column : Column) (cell : Cell) → CellFits column cell → length (cell_text cell) < 2 ^ 32 → IsTold cell
+cell_told column Null fits short = tt
+cell_told column (Num n) fits short = go (is_value_of column.kind (Num n)) refl fits
   where
     go : (b : Bool) → is_value_of column.kind (Num n) ≡ b
-        → cond (not b) (Some (RangeAt at)) (cond (nat_lt (most_bytes_of column.kind) 0) (Some (LongAt at)) None) ≡ None → FitsSigned w128 n
+        → cond (not b) (Some (RangeAt 0)) (cond (nat_lt (most_bytes_of column.kind) 0) (Some (LongAt 0)) None) ≡ None → FitsSigned w128 n
     go true is fits = integer_fits (values_of column.kind) n is
     go false is fits = cc
-cell_bits at column (Truth t) fits = tt
-cell_bits at column (Text t) fits = tt
-cell_bits at column (Blob b) fits = tt
+cell_told column (Truth t) fits short = tt
+cell_told column (Text t) fits short = bytes_short t 3 short
+cell_told column (Blob b) fits short = bytes_short b 4 short
 
-first_bits : (at : ℕ) (columns : List Column) (cells : List Cell) → length cells ≡ length columns → first_fault at columns cells ≡ None → AllByRecursion HasBits cells
-first_bits at columns [] same fits = tt
-first_bits at [] (cell ∷ cells) same fits = absurd (omega (arith, same))
-first_bits at (column ∷ columns) (cell ∷ cells) same fits = go (cell_fault at column cell) refl fits (first_bits (at + 1) columns cells (omega (arith, same)))
-  where
-    go : (fault : Option RowFault) → cell_fault at column cell ≡ fault → cond (is_none fault) (first_fault (at + 1) columns cells) fault ≡ None
-        → (first_fault (at + 1) columns cells ≡ None → AllByRecursion HasBits cells) → HasBits cell × AllByRecursion HasBits cells
-    go None is fits others = (cell_bits at column cell is, others fits)
-    go (Some fault) is fits others = cc
-
--- the cells of a row that fits: so many as there are columns, each of 128 bits
-pub row_told : (columns : List Column) (row : List Cell) → Fits columns row → (length row ≡ length columns) × AllByRecursion HasBits row
-row_told columns row fits = go (eqb_tells (length row) (length columns))
-  where
-    go : ((eqb (length row) (length columns) ≡ true) × (length row ≡ length columns)) ⊎ ((eqb (length row) (length columns) ≡ false) × (length row ≢ length columns))
-        → (length row ≡ length columns) × AllByRecursion HasBits row
-    go (inl same) = (same.1, first_bits 0 columns row same.1 (sym (ap (λ b. cond b (first_fault 0 columns row) (Some Arity)) same.0) ∙ fits))
-    go (inr other) = let no : Some Arity ≡ None = sym (ap (λ b. cond b (first_fault 0 columns row) (Some Arity)) other.0) ∙ fits in cc
+-- cells that keep their columns' rules can be told, where their texts are short
+pub cells_told : (columns : List Column) (cells : List Cell) → AllZip CellFits columns cells → AllByRecursion (λ cell. length (cell_text cell) < 2 ^ 32) cells → AllByRecursion IsTold cells
+cells_told [] [] each short = tt
+cells_told [] (x ∷ xs) each short = absurd each
+cells_told (c ∷ cs) [] each short = tt
+cells_told (c ∷ cs) (x ∷ xs) each short = (cell_told c x each.0 short.0, cells_told cs xs each.1 short.1)
 
 -- ---- keys
 
@@ -136,21 +184,17 @@ key_cell column (Blob b) cells is set fits =
     let never : Some (RangeAt 0) ≡ None = sym (ap (λ (k : Kind). cond (not (is_value_of k (Blob b))) (Some (RangeAt 0)) (cond (nat_lt (most_bytes_of k) (length b)) (Some (LongAt 0)) None)) is) ∙ fits in cc
 
 -- a row that fits columns of which the first is the key begins with its key
-pub row_keyed : (columns : List Column) (row : List Cell) → begins_with_key columns ≡ true → Fits columns row → row ≡ Num (key_of row) ∷ drop 1 row
-row_keyed [] row begins fits = cc
-row_keyed (column ∷ columns) [] begins fits = let few = (row_told (column ∷ columns) [] fits).0 in absurd (omega (arith, few))
-row_keyed (column ∷ columns) (cell ∷ cells) begins fits = go (eqb_tells (length (cell ∷ cells)) (length (column ∷ columns)))
+pub row_keyed : (columns : List Column) (row : List Cell) → begins_with_key columns ≡ true → AllZip CellFits columns row → row ≡ Num (key_of row) ∷ drop 1 row
+row_keyed [] row begins each = cc
+row_keyed (column ∷ columns) [] begins each = absurd each
+row_keyed (column ∷ columns) (cell ∷ cells) begins each = key_cell column cell cells (i64_is column.kind key.0) key.1 each.0
   where
     key : (is_i64 column.kind ≡ true) × (not column.nullable ≡ true)
     key = parts (bytes_eq column.name (codes "key")) (is_i64 column.kind) (not column.nullable) begins
 
-    first : (fault : Option RowFault) → cell_fault 0 column cell ≡ fault → cond (is_none fault) (first_fault 1 columns cells) fault ≡ None
-        → cell ∷ cells ≡ Num (key_of (cell ∷ cells)) ∷ cells
-    first None is fits = key_cell column cell cells (i64_is column.kind key.0) key.1 is
-    first (Some fault) is fits = cc
-
-    go : ((eqb (length (cell ∷ cells)) (length (column ∷ columns)) ≡ true) × (length (cell ∷ cells) ≡ length (column ∷ columns)))
-        ⊎ ((eqb (length (cell ∷ cells)) (length (column ∷ columns)) ≡ false) × (length (cell ∷ cells) ≢ length (column ∷ columns)))
-        → cell ∷ cells ≡ Num (key_of (cell ∷ cells)) ∷ cells
-    go (inl same) = first (cell_fault 0 column cell) refl (sym (ap (λ b. cond b (first_fault 0 (column ∷ columns) (cell ∷ cells)) (Some Arity)) same.0) ∙ fits)
-    go (inr other) = let never : Some Arity ≡ None = sym (ap (λ b. cond b (first_fault 0 (column ∷ columns) (cell ∷ cells)) (Some Arity)) other.0) ∙ fits in cc
+-- the cells behind the key keep the rules of the columns behind it
+pub behind_key : (columns : List Column) (row : List Cell) → AllZip CellFits columns row → AllZip CellFits (drop 1 columns) (drop 1 row)
+behind_key [] [] each = tt
+behind_key [] (x ∷ xs) each = absurd each
+behind_key (c ∷ cs) [] each = absurd each
+behind_key (c ∷ cs) (x ∷ xs) each = each.1
