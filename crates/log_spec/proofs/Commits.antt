@@ -16,15 +16,12 @@ use Rattle.log_spec.specs.Commits.{FitsPlace, IsCommitOf, IsWriteOf}
 use Rattle.log_spec.specs.Laws.{HaveSchemas, OneGroup}
 use Rattle.log_spec.specs.LogText.{cell_text, left_text, payload_text, set_text, write_text}
 use Rattle.log_spec.specs.Reading.{IsGroupOf}
-use Rattle.log_spec.proofs.Fronts.{IsTold, cell_front, counted_front, each_short, few_items, head_is, items_front, tail_is}
+use Rattle.log_spec.specs.Told.{IsKeyedCommit, IsKeyedWrite, IsTold, IsToldCommit, IsToldRow, IsToldWrite}
+use Rattle.log_spec.proofs.Fronts.{cell_front, counted_front, each_short, few_items, head_is, items_front, tail_is}
 use Rattle.log_spec.proofs.Numbers.{key_front}
 use Rattle.log_spec.proofs.Values.{CellFits, behind_key, cells_told, key_bits, row_each, row_keyed, zip_length}
 
 -- ---- rows
-
--- The cells behind the row's key can be told.
-abbrev pub IsToldRow : List Cell → Type 0
-IsToldRow row = AllByRecursion IsTold (drop 1 row)
 
 -- rows of one table at one place, by the cells behind the key
 pub row_front : (columns : List Column) (place : Place) (row other : List Cell) (x y : List ℕ) → begins_with_key columns ≡ true
@@ -54,16 +51,6 @@ told_row columns place row fits short =
     cells_told (drop 1 columns) (drop 1 row) (behind_key columns row (row_each columns row fits.cells)) (each_short cell_text (2 ^ 32) (drop 1 row) short)
 
 -- ---- writes
-
--- The row that was left, if any, can be told.
-pub record IsToldWrite (tables : List TableDecl) (write : Place × Option (List Cell)) : Type 0 where
-  pub is : IsWriteOf tables write
-  pub told : IfSome write.1 IsToldRow
-
--- The columns of the write's table begin with the key.
-pub record IsKeyedWrite (tables : List TableDecl) (write : Place × Option (List Cell)) : Type 0 where
-  pub told : IsToldWrite tables write
-  pub keyed : IsSomeAnd (slice_get tables write.0.table) (λ table. begins_with_key table.schema ≡ true)
 
 left_front : (columns : List Column) (place : Place) (left other : Option (List Cell)) (x y : List ℕ) → begins_with_key columns ≡ true
     → IfSome left (FitsPlace columns place) → IfSome other (FitsPlace columns place) → IfSome left IsToldRow → IfSome other IsToldRow
@@ -132,16 +119,6 @@ write_some write = omega arith
 
 pub set_some : (writes : WriteSet) → 0 < length (set_text writes)
 set_some writes = omega arith
-
--- Each write of the commit can be told.
-pub record IsToldCommit (tables : List TableDecl) (writes : WriteSet) : Type 0 where
-  pub few : length writes < 2 ^ 32
-  pub told : AllByRecursion (IsToldWrite tables) writes
-
--- The columns of each write's table begin with the key.
-pub record IsKeyedCommit (tables : List TableDecl) (writes : WriteSet) : Type 0 where
-  pub few : length writes < 2 ^ 32
-  pub keyed : AllByRecursion (IsKeyedWrite tables) writes
 
 pub set_front : (tables : List TableDecl) → length tables ≤ 2 ^ 8 → (a b : WriteSet) (x y : List ℕ) → IsKeyedCommit tables a → IsToldCommit tables b
     → set_text a ++ x ≡ set_text b ++ y → (a ≡ b) × (x ≡ y)

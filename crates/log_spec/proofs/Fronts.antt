@@ -1,13 +1,14 @@
 -- Of the texts of a log none is a front of another: what is printed in front of bytes is known by
 -- the bytes.
 use Rattle.std.proofs.Common.{◌≡◌, ℕ, ◌^◌, ◌<◌, ◌≤◌, Bool, true, false, eqb, List, [], ◌∷◌, ◌++◌, get_or, length, take, drop, refl, sym, ◌∙◌, ap, arith, append_assoc, length-append}
-use Rattle.std.specs.Prelude.{FitsSigned, if◌then◌else◌}
+use Rattle.std.specs.Prelude.{if◌then◌else◌}
 use Rattle.std.specs.List.{AllByRecursion, flat_map}
-use Rattle.std.specs.Int.{w32, w128, to_le_bytes}
+use Rattle.std.specs.Int.{w32, to_le_bytes}
 use Rattle.std.proofs.lemmas.List.{take_at, drop_at}
 use Rattle.cell_model.specs.declared.cell.Cell.{Cell}
 use Rattle.cell_model.specs.declared.cell.Cell.TheVariants.{Null, Num, Truth, Text, Blob}
 use Rattle.log_spec.specs.LogText.{cell_text, counted, sized}
+use Rattle.log_spec.specs.Told.{IsTold}
 use Rattle.log_spec.proofs.Numbers.{count_front, signed_front}
 
 pub no_nil : {X : Type 0} (a : X) (xs : List X) → a ∷ xs ≡ [] → ⊥
@@ -42,14 +43,6 @@ sized_front a b x y la lb is = (same, rest)
     rest = sym (drop_at a x (length a) refl) ∙ ap (λ (l : List ℕ). drop (length a) l) found.1 ∙ drop_at b y (length a) (sym found.0)
 
 -- ---- cells
-
--- The cell can be told by its text: its number has 128 bits, its length 32.
-abbrev pub IsTold : Cell → Type 0
-IsTold Null = Unit {0}
-IsTold (Num number) = FitsSigned w128 number
-IsTold (Truth truth) = Unit {0}
-IsTold (Text text) = length text < 2 ^ 32
-IsTold (Blob bytes) = length bytes < 2 ^ 32
 
 truth_front : (s t : Bool) (x y : List ℕ) → (if s then 1 else 0) ∷ x ≡ (if t then 1 else 0) ∷ y → (s ≡ t) × (x ≡ y)
 truth_front true true x y is = (refl, tail_is 1 1 x y is)

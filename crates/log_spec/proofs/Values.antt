@@ -21,7 +21,7 @@ use Rattle.cell_model.specs.Values.{byte_length, is_between, is_integer_in, is_i
 use Rattle.cell_model.specs.Schemas.{begins_with_key, is_i64}
 use Rattle.isolation_spec.specs.Contents.{key_of}
 use Rattle.log_spec.specs.LogText.{cell_text, sized}
-use Rattle.log_spec.proofs.Fronts.{IsTold}
+use Rattle.log_spec.specs.Told.{IsTold}
 
 -- a number between two of 128 bits has them
 between_fits : (low high n : ℤ) → negsuc (2 ^ 127 - 1) ≤ℤ low → high ≤ℤ pos (2 ^ 127 - 1) → is_between low high n ≡ true → FitsSigned w128 n
