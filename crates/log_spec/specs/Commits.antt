@@ -1,43 +1,35 @@
--- Which write sets are commits of tables, as a log keeps them.
-use Rattle.std.specs.Prelude.{◌≡◌, ◌≢◌, ⊤, ℕ, ◌<◌, ◌^◌, List, [], ◌∷◌, length, All, IfSome}
-use Rattle.std.specs.Prelude.{slice_get, Option, Some}
-use Rattle.std.specs.Map.{keys_of}
-use Rattle.std.specs.declared.cmp.Ordering.TheVariants.{Less}
+-- Which write sets are commits of which tables.
+use Rattle.std.specs.Prelude.{◌≡◌, ◌≢◌, true, List, [], All, Option, IfSome, IsSomeAnd, slice_get}
 use Rattle.cell_model.specs.declared.cell.Cell.{Cell}
-use Rattle.cell_model.specs.declared.cell.Cell.TheVariants.{Num}
+use Rattle.cell_model.specs.declared.column.Column.{Column}
+use Rattle.cell_model.specs.declared.kind.Kind.TheVariants.{I64}
 use Rattle.cell_model.specs.declared.table.TableDecl.{TableDecl}
 use Rattle.cell_model.specs.Rows.{Fits}
-use Rattle.isolation_spec.specs.Contents.{WriteSet, History, place_cmp}
+use Rattle.cell_model.specs.Values.{is_integer_of}
+use Rattle.isolation_spec.specs.Contents.{key_of, WriteSet, History}
+use Rattle.isolation_spec.specs.Order.{InOrder}
 use Rattle.isolation_spec.specs.declared.place.Place.{Place}
-use Rattle.log_spec.specs.LogText.{payload_text}
 
--- The row may stand at the place: it fits the columns of the place's table, and begins with the
+-- The row that a write leaves at a place of a table with these columns: it fits them, and has the
 -- place's key.
-pub record IsRowAt (tables : List TableDecl) (place : Place) (row : List Cell) : Type 0 where
-  pub fits : IfSome (slice_get tables place.table) (λ table. Fits table.schema row)
-  pub key : slice_get row 0 ≡ Some (Num place.key)
+pub record FitsPlace (columns : List Column) (place : Place) (row : List Cell) : Type 0 where
+  pub cells : Fits columns row
+  pub key : key_of row ≡ place.key
 
--- A write to one of these tables: the table is there, its number has 8 bits, and the row that was
--- left, if any, may stand at the place.
+-- A write of these tables: its table is one of them, its key a number of 64 bits, and the row that
+-- it leaves, if it leaves one, fits.
 pub record IsWriteOf (tables : List TableDecl) (write : Place × Option (List Cell)) : Type 0 where
-  pub there : write.0.table < length tables
-  pub small : write.0.table < 2 ^ 8
-  pub row : IfSome write.1 (IsRowAt tables write.0)
+  pub key : is_integer_of I64 write.0.key ≡ true
+  pub row : IsSomeAnd (slice_get tables write.0.table)
+      (λ table. IfSome write.1 (FitsPlace table.schema write.0))
 
--- the places rise, by table and then by key
-abbrev pub Rises : {X : Type 0} → List (Place × X) → Type 0
-Rises [] = ⊤
-Rises (write ∷ writes) =
-    All (λ place. place_cmp write.0 place ≡ Less) (keys_of writes) × Rises writes
-
--- A commit of these tables: it wrote something, and each place once.
+-- A commit of these tables: it wrote something, each place once and in order, and its writes are
+-- writes of them.
 pub record IsCommitOf (tables : List TableDecl) (writes : WriteSet) : Type 0 where
   pub some : writes ≢ []
-  pub rises : Rises writes
+  pub rises : InOrder writes
   pub each : All (IsWriteOf tables) writes
 
--- Commits of a record: there is one, and their text's length has 32 bits.
-pub record IsGroupOf (tables : List TableDecl) (commits : History) : Type 0 where
-  pub some : commits ≢ []
-  pub each : All (IsCommitOf tables) commits
-  pub short : length (payload_text commits) < 2 ^ 32
+-- each write set is a commit of these tables
+abbrev pub AreCommitsOf : List TableDecl → History → Type 0
+AreCommitsOf tables commits = All (IsCommitOf tables) commits

@@ -1,10 +1,19 @@
 -- Which bytes are a log of which commits of tables, and where others leave that form.
-use Rattle.std.specs.Prelude.{◌≡◌, ◌≢◌, ⊤, ◌⊎◌, ℕ, List, [], ◌∷◌, ◌++◌, map, length, take, All}
+use Rattle.std.specs.Prelude.{◌≡◌, ◌≢◌, ⊤, ◌⊎◌, ℕ, ◌^◌, ◌<◌, ◌≤◌, List, [], ◌∷◌, ◌++◌, map, length}
+use Rattle.std.specs.Prelude.{take, All}
 use Rattle.std.specs.List.{AllByRecursion, flat_map}
 use Rattle.cell_model.specs.declared.table.TableDecl.{TableDecl}
 use Rattle.isolation_spec.specs.Contents.{History}
-use Rattle.log_spec.specs.Commits.{IsGroupOf}
+use Rattle.log_spec.specs.Commits.{AreCommitsOf}
 use Rattle.log_spec.specs.LogText.{IsLogAt, IsOpen, Record, front_text, magic, payload_text, sized}
+
+-- Commits of these tables that a record may have: there is one, a table's number has 8 bits, and
+-- their text's length 32.
+pub record IsGroupOf (tables : List TableDecl) (commits : History) : Type 0 where
+  pub some : commits ≢ []
+  pub few : length tables ≤ 2 ^ 8
+  pub each : AreCommitsOf tables commits
+  pub short : length (payload_text commits) < 2 ^ 32
 
 -- The bytes are the log of these commits of these tables: of some groups of them, each of which a
 -- record has.

@@ -75,7 +75,7 @@ impl Model for History {
     ghost Value = { HistoryValue };
 
     ghost coded = { coded_list (coded_list (coded× the_row.coded
-      (coded_option (coded_list cell_row.coded)))) };
+        (coded_option (coded_list cell_row.coded)))) };
 
     ghost view = { λ h. h.commits.items };
 }
