@@ -1,6 +1,7 @@
 -- What a disk that tells nothing may leave: anything, as a torn write into an empty file may.
 use Rattle.std.proofs.Common.{◌≡◌, ℕ, zero, suc, ◌+◌, List, [], ◌++◌, take, drop, refl, sym, ◌∙◌, ap, arith}
-use Rattle.disk_ports.specs.FileSteps.{Tears}
+use Rattle.std.proofs.Common.{None, Result, Ok, Err}
+use Rattle.disk_ports.specs.FileSteps.{Tears, Writes}
 use Rattle.disk_ports.proofs.Laying.{drop_nothing}
 
 abbrev no_bytes : List ℕ
@@ -22,3 +23,9 @@ from_nothing at count c = (
         ∙ ap (λ (l : List ℕ). l ++ c) (drop_nothing (at + count)));
   },
 )
+
+-- nothing is told of what was written
+pub nothing_written : {T E : Type 0} → (result : Result T E) (at : ℕ) (piece : List ℕ)
+    → Writes None None result at piece
+nothing_written (Ok done) at piece = tt
+nothing_written (Err fault) at piece = tt

@@ -1,12 +1,11 @@
 -- What a crash leaves by a way of tearing is among what it may leave.
 use Rattle.std.proofs.Common.{◌≡◌, ℕ, ◌+◌, ◌-◌, ◌/◌, ◌<◌, ◌≤◌, List, [], ◌∷◌, ◌++◌, inr, length, take}
-use Rattle.std.proofs.Common.{drop, map, get_or, refl, sym, ◌∙◌, ap, subst, arith, length-append}
+use Rattle.std.proofs.Common.{drop, map, get_or, sym, ◌∙◌, ap, subst, arith, length-append}
 use Rattle.std.proofs.Common.{take-append-drop}
 use Rattle.std.proofs.lemmas.List.{length-take, length-drop, length-replicate, length-map}
 use Rattle.std.proofs.lemmas.List.{reverse-append, length-reverse, map-append, drop_at}
 use Rattle.std.proofs.lemmas.Grind.{take_at_read}
 use Rattle.std.specs.Prelude.{replicate, reverse}
-use Rattle.disk_ports.specs.FileSteps.{Lays, Tears}
 use Rattle.disk_ports.specs.Memory.{Held, Step, Asked, Wrote, Synced, outcomes, step_of, held_since}
 use Rattle.disk_ports.specs.Tears.{TornBy, TornStep, part_of}
 use Rattle.disk_ports.specs.declared.memory.Call.{Call}

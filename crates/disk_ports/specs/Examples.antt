@@ -1,9 +1,9 @@
 -- Worked examples of what calls do to a file and of what crashes leave.
-use Rattle.std.specs.Prelude.{◌≡◌, ◌⊎◌, ℕ, List, [], ◌∷◌, Option, None, Some, Result, Ok, Err}
+use Rattle.std.specs.Prelude.{◌≡◌, [], ◌∷◌, None, Some, Result, Ok, Err}
 use Rattle.byte_ports.specs.FaultPlan.{new_plan}
 use Rattle.disk_ports.specs.Crashes.{Leaves}
 use Rattle.disk_ports.specs.FileSteps.{Lays, Reads, ReadsFrom, Tears, TearsWithin, Writes}
-use Rattle.disk_ports.specs.Memory.{Held, Asked, Wrote, Synced, held_since, may_hold, outcomes}
+use Rattle.disk_ports.specs.Memory.{Held, Asked, Wrote, Synced, held_since, may_hold}
 
 abbrev pub done : Result (Unit {0}) (Unit {0})
 done = Ok tt

@@ -1,5 +1,6 @@
 pub mod Crashes
 pub mod Examples
+pub mod Faults
 pub mod FileSteps
 pub mod Files
 pub mod Memory

@@ -1,6 +1,6 @@
 -- When a log meets a failed call of its disk.
 use Rattle.std.specs.Prelude.{◌≡◌, ℕ, Result, Ok, Err}
-use Rattle.byte_ports.specs.Calls.{Rose}
+use Rattle.disk_ports.specs.Faults.{Rose}
 use Rattle.payload_log.specs.declared.fault.LogFault.{LogFault}
 use Rattle.payload_log.specs.declared.fault.LogFault.TheVariants.{NotALog, Disk, Failed, Memory}
 

@@ -1,4 +1,8 @@
 //! Why a log could not be made, opened or added to.
+ghost use Rattle.std.specs.Prelude.{◌≡◌};
+ghost use Rattle.payload_log.specs.declared.fault.LogFault.TheVariants.{Memory};
+
+use std::alloc::AllocError;
 use thiserror::Error;
 
 /// Why a log could not be made, opened or added to.
@@ -16,4 +20,13 @@ pub enum LogFault {
     /// There was no memory, or no place left in 2^62 bytes.
     #[error("out of memory")]
     Memory,
+}
+
+impl From<AllocError> for LogFault {
+    ghost from_gives = { λ _ f. f ≡ Memory };
+
+    /// Refused memory, which `?` hands on.
+    fn from(_: AllocError) -> Self {
+        LogFault::Memory
+    }
 }

@@ -1,7 +1,7 @@
 //! The writes of a log, each with the syncs that it needs.
 ghost use Rattle.std.specs.Prelude.{◌≡◌, ◌+◌, ◌^◌, ◌<◌, ◌++◌, [], ◌∷◌, List, ℕ, Some, IfOk};
 ghost use Rattle.std.specs.Prelude.{OnErr, OnOk, length};
-ghost use Rattle.byte_ports.specs.Calls.{Rose};
+ghost use Rattle.disk_ports.specs.Faults.{Rose};
 ghost use Rattle.disk_ports.specs.Crashes.{LeavesOnly};
 ghost use Rattle.log_spec.specs.LogText.{sized};
 ghost use Rattle.payload_log.specs.Logs.{IsBeforeOrAfter, Stands};

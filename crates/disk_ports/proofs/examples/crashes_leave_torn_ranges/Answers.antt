@@ -1,6 +1,6 @@
-use Rattle.std.proofs.Common.{◌≡◌, ◌⊎◌, inl, inr, ℕ, zero, suc, ◌≤◌, List, [], ◌∷◌, ◌++◌, length, drop, get_or, refl, ◌∙◌, ap, subst, lit≤, arith}
+use Rattle.std.proofs.Common.{◌≡◌, inl, inr, ℕ, zero, suc, ◌≤◌, List, [], ◌∷◌, length, drop, get_or, refl, ap, subst, lit≤, arith}
 use Rattle.disk_ports.specs.FileSteps.{Tears}
-use Rattle.disk_ports.specs.Memory.{Step, Asked, Wrote, Synced, held_since, may_hold, outcomes}
+use Rattle.disk_ports.specs.Memory.{Step, held_since, may_hold, outcomes}
 use Rattle.disk_ports.specs.Examples.{synced}
 use Rattle.disk_ports.proofs.examples.crashes_leave_torn_ranges.Goals as goal
 

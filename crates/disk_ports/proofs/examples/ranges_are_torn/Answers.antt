@@ -1,6 +1,6 @@
-use Rattle.std.proofs.Common.{◌≡◌, ℕ, List, [], ◌∷◌, ◌++◌, length, drop, get_or, refl, ◌∙◌, ap, lit≤, arith, length-append}
+use Rattle.std.proofs.Common.{◌≡◌, ℕ, List, [], ◌∷◌, length, drop, get_or, refl, ◌∙◌, ap, lit≤, arith, length-append}
 use Rattle.std.proofs.lemmas.List.{drop_at}
-use Rattle.disk_ports.specs.FileSteps.{Tears, TearsWithin}
+use Rattle.disk_ports.specs.FileSteps.{Tears}
 use Rattle.disk_ports.proofs.examples.ranges_are_torn.Goals as goal
 
 behind_stays : ¬ Tears 1 2 (1 ∷ 2 ∷ 3 ∷ 4 ∷ []) (1 ∷ 2 ∷ 3 ∷ 9 ∷ [])
