@@ -1,5 +1,5 @@
 -- What an early exit hands on.
-use Rattle.std.proofs.Common.{◌≡◌, Result, Err, ap, sym, ◌∙◌}
+use Rattle.std.proofs.Common.{◌≡◌, Result, Err, sym, ◌∙◌}
 use Rattle.std.specs.Prelude.{IsErrAnd}
 use Rattle.std.proofs.lemmas.Result.{err_from_is_err_and}
 use Rattle.log_records.specs.declared.fault.RecordFault.{RecordFault}

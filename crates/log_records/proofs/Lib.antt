@@ -5,3 +5,4 @@ pub mod Writes
 pub mod Items
 pub mod Rising
 pub mod Sets
+pub mod Written

@@ -1,13 +1,13 @@
 -- Writes whose places rise, one by one.
-use Rattle.std.proofs.Common.{◌≡◌, ℕ, suc, ◌-◌, List, [], ◌∷◌, ◌++◌, length, refl, sym, ◌∙◌, ap, subst, arith, length-append}
-use Rattle.std.specs.Prelude.{All, IfSome, slice_get, Option, None, Some}
+use Rattle.std.proofs.Common.{◌≡◌, ℕ, suc, ◌-◌, List, [], ◌∷◌, ◌++◌, length, refl, sym, ap, subst, arith}
+use Rattle.std.specs.Prelude.{All, IfSome, slice_get, Option}
 use Rattle.std.specs.Cmp.{IsTotalOrder}
 use Rattle.std.specs.Map.{keys_of}
 use Rattle.std.specs.declared.cmp.Ordering.TheVariants.{Less}
 use Rattle.std.proofs.lemmas.Cmp.{int_cmp_total, nat_cmp_total, on_total, then_total}
 use Rattle.std.proofs.lemmas.List.Elements.{All-append, All-cons, All-head, All-nil, All-tail}
 use Rattle.cell_model.specs.declared.cell.Cell.{Cell}
-use Rattle.isolation_spec.specs.Contents.{WriteSet, place_cmp}
+use Rattle.isolation_spec.specs.Contents.{place_cmp}
 use Rattle.isolation_spec.specs.Order.{InOrder}
 use Rattle.isolation_spec.specs.declared.place.Place.{Place}
 use Rattle.log_records.specs.Front.{GoesOn}

@@ -1,6 +1,6 @@
 -- A row's cells that were read, column by column, and what they say of the others.
-use Rattle.std.proofs.Common.{◌≡◌, ℕ, zero, suc, ◌+◌, ◌-◌, ◌<◌, ◌≤◌, Bool, true, false, not, cond, List, [], ◌∷◌, ◌++◌, get_or, length, take, drop, refl, sym, ◌∙◌, ap, subst, arith, append_assoc, append-nil, length-append, length-take, length-drop}
-use Rattle.std.specs.Prelude.{ℤ, pos, negsuc, ◌^◌, ◌&&◌, ◌≤ℤ◌, int_le, FitsSigned, Option, None, Some, nat_lt, bytes_eq, codes}
+use Rattle.std.proofs.Common.{◌≡◌, ℕ, ◌+◌, ◌-◌, ◌<◌, Bool, true, false, not, cond, List, [], ◌∷◌, ◌++◌, get_or, length, take, drop, refl, sym, ◌∙◌, ap, subst, arith, append_assoc, append-nil, length-take}
+use Rattle.std.specs.Prelude.{ℤ, pos, negsuc, ◌^◌, ◌&&◌, int_le, FitsSigned, None, Some, nat_lt, bytes_eq, codes}
 use Rattle.std.specs.List.{AllByRecursion, AllZip, flat_map}
 use Rattle.std.specs.Int.{w64, w128, cast_signed, cast_unsigned}
 use Rattle.std.proofs.lemmas.Int.{ints}
@@ -11,15 +11,13 @@ use Rattle.cell_model.specs.declared.cell.Cell.TheVariants.{Num}
 use Rattle.cell_model.specs.declared.column.Column.{Column}
 use Rattle.cell_model.specs.declared.kind.Kind.{Kind}
 use Rattle.cell_model.specs.declared.kind.Kind.TheVariants as kind
-use Rattle.cell_model.specs.declared.row.RowFault.TheVariants.{LongAt, NullAt, RangeAt}
-use Rattle.cell_model.specs.Rows.{Fits, cell_fault}
+use Rattle.cell_model.specs.declared.row.RowFault.TheVariants.{LongAt, RangeAt}
 use Rattle.cell_model.specs.Schemas.{begins_with_key, is_i64}
 use Rattle.cell_model.specs.Values.{is_integer_of, is_value_of, most_bytes_of}
 use Rattle.isolation_spec.specs.Contents.{key_of}
 use Rattle.isolation_spec.specs.declared.place.Place.{Place}
-use Rattle.log_spec.specs.Commits.{FitsPlace}
 use Rattle.log_spec.specs.LogText.{cell_text}
-use Rattle.log_spec.specs.Told.{IsTold, IsToldRow}
+use Rattle.log_spec.specs.Told.{IsTold}
 use Rattle.log_spec.proofs.Fronts.{cell_front, next_front}
 use Rattle.log_spec.proofs.Values.{CellFits, behind_key, each_row, i64_is, parts, row_each, zip_length}
 use Rattle.log_records.specs.Front.{IsCellOf, IsRowAt, NoneInFront, Takes, attributes_text}

@@ -1,6 +1,6 @@
 -- Commits and groups of them that were read, and what they say of the others.
-use Rattle.std.proofs.Common.{◌≡◌, ℕ, zero, suc, ◌+◌, ◌^◌, ◌<◌, ◌≤◌, List, [], ◌∷◌, ◌++◌, length, refl, sym, ◌∙◌, ap, subst, arith, append_assoc, append-nil, length-append}
-use Rattle.std.specs.Prelude.{All, Option}
+use Rattle.std.proofs.Common.{◌≡◌, ℕ, ◌+◌, ◌^◌, ◌<◌, ◌≤◌, List, [], ◌∷◌, ◌++◌, length, refl, sym, ◌∙◌, ap, subst, arith, append_assoc, append-nil}
+use Rattle.std.specs.Prelude.{Option}
 use Rattle.std.specs.List.{AllByRecursion, flat_map}
 use Rattle.std.specs.Int.{w32, to_le_bytes}
 use Rattle.std.proofs.lemmas.List.Elements.{All-from_recursion, recursion_from_All}
@@ -12,9 +12,9 @@ use Rattle.isolation_spec.specs.declared.place.Place.{Place}
 use Rattle.log_spec.specs.Commits.{IsCommitOf, IsWriteOf}
 use Rattle.log_spec.specs.LogText.{counted, payload_text, set_text, write_text}
 use Rattle.log_spec.specs.Reading.{IsGroupOf}
-use Rattle.log_spec.specs.Told.{IsKeyedCommit, IsKeyedWrite, IsToldCommit, IsToldWrite}
+use Rattle.log_spec.specs.Told.{IsKeyedWrite, IsToldCommit, IsToldWrite}
 use Rattle.log_spec.proofs.Commits.{set_front, told_group, write_front}
-use Rattle.log_spec.proofs.Fronts.{counted_front, no_nil}
+use Rattle.log_spec.proofs.Fronts.{counted_front}
 use Rattle.log_spec.proofs.Numbers.{count_front}
 use Rattle.log_records.specs.Front.{AreCounted, GoesOn, IsReadCommit, MayBeCommit, NoneInFront, Takes}
 use Rattle.log_records.proofs.Items.{ItemsSoFar, items_all, items_more, items_next, items_none, items_refused, uncounted}

@@ -1,5 +1,5 @@
 -- A write, by its place and by what was left there.
-use Rattle.std.proofs.Common.{◌≡◌, ℕ, true, ◌%◌, ◌<◌, ◌≤◌, List, ◌∷◌, ◌++◌, get_or, length, drop, refl, sym, ◌∙◌, ap, subst, arith, append_assoc}
+use Rattle.std.proofs.Common.{◌≡◌, ℕ, true, ◌%◌, ◌<◌, ◌≤◌, List, ◌∷◌, ◌++◌, length, drop, sym, ◌∙◌, ap, subst, arith, append_assoc}
 use Rattle.std.specs.Prelude.{ℤ, ◌^◌, IfSome, IsSomeAnd, slice_get, FitsSigned, Option, None, Some}
 use Rattle.std.specs.List.{flat_map}
 use Rattle.std.specs.Int.{w64, cast_unsigned, to_le_bytes}
@@ -9,7 +9,7 @@ use Rattle.cell_model.specs.declared.table.TableDecl.{TableDecl}
 use Rattle.cell_model.specs.Schemas.{IsSchema, begins_with_key}
 use Rattle.isolation_spec.specs.Contents.{place_at}
 use Rattle.isolation_spec.specs.declared.place.Place.{Place}
-use Rattle.log_spec.specs.Commits.{FitsPlace, IsWriteOf}
+use Rattle.log_spec.specs.Commits.{FitsPlace}
 use Rattle.log_spec.specs.LogText.{cell_text, left_text, write_text}
 use Rattle.log_spec.specs.Told.{IsKeyedWrite, IsToldRow, IsToldWrite}
 use Rattle.log_spec.proofs.Commits.{table_there}

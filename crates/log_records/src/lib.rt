@@ -1,6 +1,7 @@
 //! The payload of a log's record: commits as bytes, and bytes as the commits that they stand for.
 #![tactic(auto)]
 
+pub mod attributes;
 pub mod fault;
 pub mod kinds;
 pub mod numbers;

@@ -15,6 +15,9 @@ use log_spec::WriteSet;
 use std::alloc::Global;
 use std::cmp::Ordering;
 
+/// The most tables: a table's number has 8 bits.
+const MOST_TABLES: usize = 256;
+
 /// The fewest bytes of a write: its table, its key, and that no row was left.
 const LEAST_WRITE: usize = 10;
 
@@ -33,7 +36,7 @@ pub fn commits_of(
     ensures form { IsErrOf result RecordFault.Form → (commits : History) →
         IsGroupOf tables.now commits → payload_text commits ≡ payload.now → ⊥ }
 {
-    if tables.len() > 256 {
+    if tables.len() > MOST_TABLES {
         return Err(RecordFault::Form);
     }
     let mut reader = Reader::new(payload);

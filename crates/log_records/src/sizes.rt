@@ -1,8 +1,9 @@
 //! How long a payload is, without the payload.
 ghost use Rattle.std.specs.Prelude.{◌≡◌, ◌-◌, ◌^◌, length, min, nat_lt};
+ghost use Rattle.std.specs.List.{flat_map};
 ghost use Rattle.log_spec.specs.LogText.{cell_text, payload_text, set_text, write_text};
-ghost use Rattle.log_records.specs.Front.{attributes_text};
 
+use crate::attributes::attributes;
 use cell_model::{Cell, Row};
 use isolation_spec::Place;
 use log_spec::WriteSet;
@@ -42,19 +43,17 @@ fn write_len(write: &(Place, Option<Row>)) -> u64
 {
     match &write.1 {
         None => 10,
-        Some(row) => cells_len(row.as_slice()).saturating_add(10),
+        Some(row) => cells_len(attributes(row)).saturating_add(10),
     }
 }
 
-/// The length of the texts of the cells behind the first, or 2^64 - 1.
+/// The length of the texts of cells, or 2^64 - 1.
 fn cells_len(cells: &[Cell]) -> u64
-    ensures { result ≡ min (length (attributes_text cells.now)) (2 ^ 64 - 1) }
+    ensures { result ≡ min (length (flat_map cell_text cells.now)) (2 ^ 64 - 1) }
 {
     let mut len = 0u64;
-    if let Some((_, attributes)) = cells.split_first() {
-        for cell in attributes {
-            len = len.saturating_add(cell_len(cell));
-        }
+    for cell in cells {
+        len = len.saturating_add(cell_len(cell));
     }
     len
 }

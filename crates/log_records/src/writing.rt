@@ -1,9 +1,10 @@
 //! Commits that are written as the bytes of a payload.
 ghost use Rattle.std.specs.Prelude.{◌≡◌, ◌<◌, ◌^◌, ◌++◌, length, IfOk, OnOk};
-ghost use Rattle.std.specs.Int.{w32, to_le_bytes};
+ghost use Rattle.std.specs.Int.{w32, w64, w128, cast_unsigned, to_le_bytes};
+ghost use Rattle.std.specs.List.{flat_map};
 ghost use Rattle.log_spec.specs.LogText.{cell_text, payload_text, set_text, sized, write_text};
-ghost use Rattle.log_records.specs.Front.{attributes_text};
 
+use crate::attributes::attributes;
 use crate::kinds::{BLOB, GONE, LEFT, NULL, NUMBER, TEXT, TRUTH};
 use crate::sizes::payload_len;
 use cell_model::{Cell, Row};
@@ -45,26 +46,24 @@ fn put_write(bytes: &mut Vec<u8>, write: &(Place, Option<Row>)) -> Result<(), Al
 {
     let place = &write.0;
     bytes.push((place.table % 256) as u8)?;
-    bytes.extend_from_slice(&place.key.to_le_bytes())?;
+    put_key(bytes, place.key)?;
     match &write.1 {
         None => bytes.push(GONE)?,
         Some(row) => {
             bytes.push(LEFT)?;
-            put_cells(bytes, row.as_slice())?;
+            put_cells(bytes, attributes(row))?;
         }
     }
     Ok(())
 }
 
-/// Puts the cells behind the first one behind the bytes.
+/// Puts cells behind the bytes.
 fn put_cells(bytes: &mut Vec<u8>, cells: &[Cell]) -> Result<(), AllocError>
-    requires { length (attributes_text cells.now) < 2 ^ 32 }
-    ensures { OnOk result (bytes.new.items ≡ bytes.old.items ++ attributes_text cells.now) }
+    requires { length (flat_map cell_text cells.now) < 2 ^ 32 }
+    ensures { OnOk result (bytes.new.items ≡ bytes.old.items ++ flat_map cell_text cells.now) }
 {
-    if let Some((_, attributes)) = cells.split_first() {
-        for cell in attributes {
-            put_cell(bytes, cell)?;
-        }
+    for cell in cells {
+        put_cell(bytes, cell)?;
     }
     Ok(())
 }
@@ -81,7 +80,7 @@ fn put_cell(bytes: &mut Vec<u8>, cell: &Cell) -> Result<(), AllocError>
         }
         Cell::Num(number) => {
             bytes.push(NUMBER)?;
-            bytes.extend_from_slice(&number.to_le_bytes())
+            put_number(bytes, *number)
         }
         Cell::Truth(truth) => {
             bytes.push(TRUTH)?;
@@ -114,4 +113,20 @@ fn put_count(bytes: &mut Vec<u8>, count: usize) -> Result<(), AllocError>
     ensures { OnOk result (bytes.new.items ≡ bytes.old.items ++ to_le_bytes w32 count) }
 {
     bytes.extend_from_slice(&(count as u32).to_le_bytes())
+}
+
+/// Puts a key of 64 bits behind the bytes.
+fn put_key(bytes: &mut Vec<u8>, key: i64) -> Result<(), AllocError>
+    ensures { OnOk result
+        (bytes.new.items ≡ bytes.old.items ++ to_le_bytes w64 (cast_unsigned w64 key)) }
+{
+    bytes.extend_from_slice(&key.to_le_bytes())
+}
+
+/// Puts a number of 128 bits behind the bytes.
+fn put_number(bytes: &mut Vec<u8>, number: i128) -> Result<(), AllocError>
+    ensures { OnOk result
+        (bytes.new.items ≡ bytes.old.items ++ to_le_bytes w128 (cast_unsigned w128 number)) }
+{
+    bytes.extend_from_slice(&number.to_le_bytes())
 }

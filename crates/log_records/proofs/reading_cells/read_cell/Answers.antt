@@ -1,4 +1,4 @@
-use Rattle.std.proofs.Common.{◌≡◌, sym, ◌∙◌, ap, refl, Some, None}
+use Rattle.std.proofs.Common.{◌≡◌, sym, ◌∙◌, ap, None}
 use Rattle.cell_model.specs.Rows.{cell_fault}
 use Rattle.cell_model.specs.declared.cell.Cell.{Cell}
 use Rattle.log_spec.proofs.Fronts.{cell_front}

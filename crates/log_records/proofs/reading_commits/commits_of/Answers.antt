@@ -1,4 +1,4 @@
-use Rattle.std.proofs.Common.{◌≡◌, ℕ, List, [], ◌∷◌, ◌++◌, length, Err, sym, ◌∙◌, ap, subst, refl, arith, append-nil}
+use Rattle.std.proofs.Common.{◌≡◌, ℕ, List, [], ◌∷◌, length, Err, sym, ◌∙◌, ap, subst, refl, arith, append-nil}
 use Rattle.isolation_spec.specs.Contents.{History}
 use Rattle.log_spec.specs.LogText.{payload_text}
 use Rattle.log_records.specs.Front.{AreCounted, IsReadCommit, Takes}
@@ -21,9 +21,9 @@ returns-else-len-eq0-clause-form c = λ _ commits is same.
     let len = c.len.ensures in
     let left : length c.read_commits.new.reader ≡ 0 = ap length both.1 in
     elim c.else-len-eq0.branch [
-    | else-len-eq0-via-then-len-eq0+else-not-is_empty w ↦
-        is.some (sym both.0 ∙ empty c.in_ok-commits.commits.items (let e = w.is_empty.ensures in let t = w.if-not-is_empty.false in let k = c.in_ok-commits.commits.ok.0 in grind arith))
-    | else-len-eq0-via-else-len-eq0 w ↦ let other = w.if-len-eq0.false in absurd (omega (arith, other, len, left))
+      | else-len-eq0-via-then-len-eq0+else-not-is_empty w ↦
+          is.some (sym both.0 ∙ empty c.in_ok-commits.commits.items (let e = w.is_empty.ensures in let t = w.if-not-is_empty.false in let k = c.in_ok-commits.commits.ok.0 in grind arith))
+      | else-len-eq0-via-else-len-eq0 w ↦ let other = w.if-len-eq0.false in absurd (omega (arith, other, len, left))
     ]
   where
     empty : (commits : History) → length commits ≡ 0 → commits ≡ []

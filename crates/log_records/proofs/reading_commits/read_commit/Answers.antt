@@ -1,4 +1,4 @@
-use Rattle.std.proofs.Common.{◌≡◌, ℕ, ◌+◌, ◌<◌, ◌^◌, IsTrue, List, Err, sym, ap, subst, arith, rules}
+use Rattle.std.proofs.Common.{◌+◌, ◌<◌, ◌^◌, IsTrue, List, Err, sym, ap, subst, arith, rules}
 use Rattle.std.specs.Prelude.{Option}
 use Rattle.cell_model.specs.declared.cell.Cell.{Cell}
 use Rattle.isolation_spec.specs.declared.place.Place.{Place}

@@ -1,4 +1,4 @@
-use Rattle.std.proofs.Common.{◌≡◌, ℕ, ◌<◌, ◌^◌, Err, ap, rules}
+use Rattle.std.proofs.Common.{◌<◌, ◌^◌, Err, ap, rules}
 use Rattle.log_records.proofs.Exits.{form_met}
 use Rattle.log_records.proofs.Sets.{group_refused}
 use Rattle.log_records.proofs.reading_commits.read_commits.Goals as goal

@@ -1,6 +1,6 @@
-use Rattle.std.proofs.Common.{◌≡◌, ℕ, ℤ, ◌<◌, List, ◌∷◌, ◌++◌, Err, Some, sym, ◌∙◌, ap, subst, rules}
-use Rattle.std.specs.Prelude.{FitsSigned, slice_get}
-use Rattle.std.specs.Int.{w64, cast_signed, cast_unsigned, to_le_bytes}
+use Rattle.std.proofs.Common.{ℕ, ℤ, List, ◌∷◌, Err, Some, sym, ◌∙◌, ap, subst, rules}
+use Rattle.std.specs.Prelude.{FitsSigned}
+use Rattle.std.specs.Int.{w64}
 use Rattle.std.proofs.lemmas.Int.{to_z-of_z}
 use Rattle.std.proofs.lemmas.Option.{slice_get-get_or}
 use Rattle.cell_model.specs.declared.column.Column.{Column}
