@@ -55,8 +55,8 @@ fn read_commits(
     tables: &[TableDecl],
 ) -> Result<Vec<WriteSet>, RecordFault>
     requires { length tables.now ≤ 2 ^ 8 }
-    ensures commits { IfOk result (λ commits.
-        Takes (AreCounted (IsReadCommit tables.now)) payload_text reader.old reader.new commits.items) }
+    ensures commits { IfOk result (λ commits. Takes (AreCounted (IsReadCommit tables.now))
+        payload_text reader.old reader.new commits.items) }
     ensures form { IsErrOf result RecordFault.Form →
         NoneInFront (AreCounted (MayBeCommit tables.now)) payload_text reader.old }
 {
