@@ -144,7 +144,7 @@ key_bits n is = go (int_le (negsuc (2 ^ 63 - 1)) n) (int_le n (pos (2 ^ 63 - 1))
     go true false la lb both = cc
     go false b la lb both = cc
 
-i64_is : (k : Kind) → is_i64 k ≡ true → k ≡ kind.I64
+pub i64_is : (k : Kind) → is_i64 k ≡ true → k ≡ kind.I64
 i64_is kind.I8 is = cc
 i64_is kind.I16 is = cc
 i64_is kind.I32 is = cc
@@ -161,7 +161,7 @@ i64_is kind.LargeBinary is = cc
 i64_is (kind.Fixed width) is = cc
 i64_is kind.Date is = cc
 
-parts : (a b c : Bool) → (a && b && c) ≡ true → (b ≡ true) × (c ≡ true)
+pub parts : (a b c : Bool) → (a && b && c) ≡ true → (b ≡ true) × (c ≡ true)
 parts true true true is = (refl, refl)
 parts true true false is = cc
 parts true false c is = cc

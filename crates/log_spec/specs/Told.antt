@@ -24,12 +24,14 @@ abbrev pub IsToldRow : List Cell → Type 0
 IsToldRow row = AllByRecursion IsTold (drop 1 row)
 
 -- A write of the tables: the row that was left, if any, can be told.
-pub record IsToldWrite (tables : List TableDecl) (write : Place × Option (List Cell)) : Type 0 where
+pub record IsToldWrite (tables : List TableDecl) (write : Place × Option (List Cell))
+    : Type 0 where
   pub is : IsWriteOf tables write
   pub told : IfSome write.1 IsToldRow
 
 -- The columns of the write's table begin with the key.
-pub record IsKeyedWrite (tables : List TableDecl) (write : Place × Option (List Cell)) : Type 0 where
+pub record IsKeyedWrite (tables : List TableDecl) (write : Place × Option (List Cell))
+    : Type 0 where
   pub told : IsToldWrite tables write
   pub keyed : IsSomeAnd (slice_get tables write.0.table)
       (λ table. begins_with_key table.schema ≡ true)
