@@ -6,4 +6,5 @@ mod reading;
 
 pub use disk_ports::Disk;
 pub use log::{Log, Opened};
+pub use log_records::fits;
 pub use payload_log::LogFault;
