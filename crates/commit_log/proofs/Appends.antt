@@ -1,5 +1,6 @@
 -- A log of commits as a log of payloads.
-use Rattle.std.proofs.Common.{◌≡◌, ◌⊎◌, inl, inr, ⊎_elim, ℕ, List, [], ◌∷◌, ◌++◌, Option, All, map, refl}
+use Rattle.std.proofs.Common.{◌≡◌, ◌⊎◌, inl, inr, ⊎_elim, ℕ, List, [], ◌∷◌, ◌++◌, Option, All, map}
+use Rattle.std.proofs.Common.{refl}
 use Rattle.std.proofs.Common.{sym, ◌∙◌, ap, subst}
 use Rattle.std.proofs.lemmas.List.{append-nil, map-append}
 use Rattle.std.proofs.lemmas.List.Elements.{All-append, All-head, All-nil, All-push, All-tail}
@@ -23,18 +24,21 @@ pub leaves_also : {D : Type 0} (moment : D → ℕ) (left_since : D → ℕ → 
 leaves_also moment left_since old new P Q also leaves = record {
   later = leaves.later;
   each = λ c left. also c (leaves.each c left);
-  before = λ t c le left. ⊎_elim (λ was. inl was) (λ has. inr (also c has)) (leaves.before t c le left);
+  before = λ t c le left. ⊎_elim (λ was. inl was) (λ has. inr (also c has))
+      (leaves.before t c le left);
 }
 
 -- the flat list of some groups with one more
 flat_push : (groups : List History) (group : History)
-    → flat_map (λ (g : History). g) (groups ++ group ∷ []) ≡ flat_map (λ (g : History). g) groups ++ group
+    → flat_map (λ (g : History). g) (groups ++ group ∷ [])
+    ≡ flat_map (λ (g : History). g) groups ++ group
 flat_push groups group =
     flat_map-append (λ (g : History). g) groups (group ∷ [])
     ∙ ap (λ (l : History). flat_map (λ (g : History). g) groups ++ l) (append-nil group)
 
 -- the log of one record more, of these commits
-log_more : (tables : List TableDecl) (groups : List History) (before commits : History) (payload : List ℕ)
+log_more : (tables : List TableDecl) (groups : List History) (before commits : History)
+    (payload : List ℕ)
     (gate : ℕ) (bytes : List ℕ) → All (IsGroupOf tables) groups
     → flat_map (λ (g : History). g) groups ≡ before → IsGroupOf tables commits
     → payload ≡ payload_text commits → IsLogAt (map payload_text groups ++ payload ∷ []) gate bytes
@@ -48,7 +52,8 @@ log_more tables groups before commits payload gate bytes are flat is_group is lo
       ∙ sym (map-append payload_text groups (commits ∷ []))) log;
 }
 
-module _ (tables : List TableDecl) (told : Option (List ℕ)) (may_leave : List ℕ → Type 0) (before : History)
+module _ (tables : List TableDecl) (told : Option (List ℕ)) (may_leave : List ℕ → Type 0)
+    (before : History)
     (log : Log) (stands : StandsOf tables told may_leave before log) where
   -- the payloads of its records
   abbrev pub payloads_of : List (List ℕ)
@@ -57,18 +62,31 @@ module _ (tables : List TableDecl) (told : Option (List ℕ)) (may_leave : List 
   pub stands_by : StandsBy told may_leave payloads_of log.payloads
   stands_by = record {
     works = stands.works;
-    stands = record { bytes = stands.bytes; told_is = stands.told_is; log = stands.is_log.log; only = stands.only };
+    stands = record {
+      bytes = stands.bytes;
+      told_is = stands.told_is;
+      log = stands.is_log.log;
+      only = stands.only;
+    };
   }
 
-  module _ (commits : History) (payload : List ℕ) (is_group : IsGroupOf tables commits) (is : payload ≡ payload_text commits) where
-    pub one_of : (c : List ℕ) → IsBeforeOrAfter payloads_of payload c → GivesOneOf tables before commits c
+  module _ (commits : History) (payload : List ℕ) (is_group : IsGroupOf tables commits)
+      (is : payload ≡ payload_text commits) where
+    pub one_of : (c : List ℕ) → IsBeforeOrAfter payloads_of payload c
+        → GivesOneOf tables before commits c
     one_of c (inl without) = inl (
       without.0,
-      record { groups = stands.is_log.groups; are = stands.is_log.are; same = stands.is_log.same; log = without.1 },
+      record {
+        groups = stands.is_log.groups;
+        are = stands.is_log.are;
+        same = stands.is_log.same;
+        log = without.1;
+      },
     )
     one_of c (inr with') = inr (
       with'.0,
-      log_more tables stands.is_log.groups before commits payload with'.0 c stands.is_log.are stands.is_log.same is_group is with'.1,
+      log_more tables stands.is_log.groups before commits payload with'.0 c stands.is_log.are
+          stands.is_log.same is_group is with'.1,
     )
 
     pub stands_more : (now : Option (List ℕ)) (leaves : List ℕ → Type 0) (new : Log)
@@ -78,19 +96,26 @@ module _ (tables : List TableDecl) (told : Option (List ℕ)) (may_leave : List 
       works = by.works;
       bytes = by.stands.bytes;
       told_is = by.stands.told_is;
-      is_log = log_more tables stands.is_log.groups before commits payload new.payloads.gate by.stands.bytes
+      is_log = log_more tables stands.is_log.groups before commits payload new.payloads.gate
+          by.stands.bytes
           stands.is_log.are stands.is_log.same is_group is by.stands.log;
       only = by.stands.only;
     }
 
 -- a log that was just made has no commits
-pub stands_new : (tables : List TableDecl) (told : Option (List ℕ)) (may_leave : List ℕ → Type 0) (log : Log)
+pub stands_new : (tables : List TableDecl) (told : Option (List ℕ)) (may_leave : List ℕ → Type 0)
+    (log : Log)
     → StandsBy told may_leave [] log.payloads → StandsOf tables told may_leave [] log
 stands_new tables told may_leave log by = record {
   works = by.works;
   bytes = by.stands.bytes;
   told_is = by.stands.told_is;
-  is_log = record { groups = []; are = All-nil (IsGroupOf tables); same = refl; log = by.stands.log };
+  is_log = record {
+    groups = [];
+    are = All-nil (IsGroupOf tables);
+    same = refl;
+    log = by.stands.log;
+  };
   only = by.stands.only;
 }
 

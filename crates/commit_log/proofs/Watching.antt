@@ -4,7 +4,8 @@ use Rattle.disk_ports.specs.Crashes.{Elapses, LeavesOnly, NoMore}
 use Rattle.disk_ports.proofs.Moments.{goes_on, started}
 use Rattle.commit_log.specs.Readings.{OnlyReads}
 
-module _ {D : Type 0} (told : D → Option (List ℕ)) (may_leave : D → List ℕ → Type 0) (moment : D → ℕ)
+module _ {D : Type 0} (told : D → Option (List ℕ)) (may_leave : D → List ℕ → Type 0)
+    (moment : D → ℕ)
     (left_since : D → ℕ → List ℕ → Type 0) where
   -- before the first call
   pub no_call : ((disk : D) (c : List ℕ) → left_since disk (moment disk) c → may_leave disk c)

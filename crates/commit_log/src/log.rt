@@ -1,9 +1,9 @@
 //! A log of commits.
-ghost use Rattle.std.specs.Prelude.{◌≡◌, ◌≢◌, ℕ, ◌^◌, ◌<◌, ◌++◌, [], List, Some, Err, IfOk, IsErrOf};
-ghost use Rattle.std.specs.Prelude.{All, IsSome, OnErr, OnOk, length, true};
+ghost use Rattle.std.specs.Prelude.{◌≡◌, ◌≢◌, ℕ, ◌^◌, ◌<◌, ◌++◌, [], List, Some, Err, IfOk};
+ghost use Rattle.std.specs.Prelude.{IsErrOf, IsSome, OnErr, OnOk, length, true};
 ghost use Rattle.std.specs.Option.{ForSome};
 ghost use Rattle.cell_model.specs.declared.table.TableDecl.{TableDecl};
-ghost use Rattle.disk_ports.specs.Crashes.{LeavesJust, LeavesOnly};
+ghost use Rattle.disk_ports.specs.Crashes.{LeavesOnly};
 ghost use Rattle.isolation_spec.specs.Contents.{History};
 ghost use Rattle.log_spec.specs.Commits.{AreCommitsOf};
 ghost use Rattle.log_spec.specs.LogText.{payload_text};
@@ -36,8 +36,8 @@ pub struct Opened {
 impl Log {
     ghost use Rattle.commit_log.specs.Commits.{GivesOneOf, StandsOf};
 
-    /// Makes a log on an empty file. What a crash leaves before its Ok is not said: up to nine bytes,
-    /// which may be no log.
+    /// Makes a log on an empty file. What a crash leaves before its Ok is not said: up to nine
+    /// bytes, which may be no log.
     pub fn make<D: Disk>(disk: &mut D) -> Result<Log, LogFault>
         ensures ok { IfOk result (λ log. D.told disk.old ≡ Some [] → (tables : List TableDecl)
             → StandsOf tables (D.told disk.new) (D.may_leave disk.new) [] log) }
@@ -53,8 +53,8 @@ impl Log {
 
     /// Opens the log that the disk's file is, for these tables, and tells its commits. It changes
     /// nothing, and its last call is a sync: what was read may stand in the system's memory alone,
-    /// and from its Ok on a crash leaves just that. `NotALog` tells where the bytes leave the form of
-    /// a log of these tables.
+    /// and from its Ok on a crash leaves just that. `NotALog` tells where the bytes leave the form
+    /// of a log of these tables.
     pub fn open<D: Disk>(
         alloc: Global,
         disk: &mut D,
@@ -95,8 +95,8 @@ impl Log {
         })
     }
 
-    /// Adds the commits, as one record. A crash at any moment leaves the log without them or with all
-    /// of them, and from its Ok on with them. After a `Disk` the log has to be opened again.
+    /// Adds the commits, as one record. A crash at any moment leaves the log without them or with
+    /// all of them, and from its Ok on with them. After a `Disk` the log has to be opened again.
     pub fn append<D: Disk>(
         &mut self,
         alloc: Global,

@@ -25,7 +25,8 @@ pub record Stands
 
 -- The log stands on the disk with these payloads, and no append of it met a failed call.
 pub record StandsBy
-    (told : Option (List ℕ)) (may_leave : List ℕ → Type 0) (payloads : List (List ℕ)) (log : PayloadLog)
-    : Type 0 where
-  pub works : log.failed ≡ false
-  pub stands : Stands told may_leave payloads log.gate
+    (told : Option (List ℕ)) (may_leave : List ℕ → Type 0) (payloads : List (List ℕ))
+    (log : PayloadLog) : Type 0
+  where
+    pub works : log.failed ≡ false
+    pub stands : Stands told may_leave payloads log.gate

@@ -1,5 +1,5 @@
-//! A log of payloads on a disk that may crash at any moment: a record is added behind a closed gate,
-//! and counts from when the gate is opened.
+//! A log of payloads on a disk that may crash at any moment: a record is added behind a closed
+//! gate, and counts from when the gate is opened.
 #![tactic(auto)]
 
 mod fault;

@@ -25,8 +25,8 @@ impl PayloadLog {
     ghost use Rattle.payload_log.specs.Faults.{CountsDisk};
     ghost use Rattle.payload_log.specs.Logs.{IsBeforeOrAfter, StandsBy};
 
-    /// Makes a log on an empty file, by one write and one sync. What a crash leaves before its Ok is
-    /// not said: up to nine bytes, which may be no log.
+    /// Makes a log on an empty file, by one write and one sync. What a crash leaves before its Ok
+    /// is not said: up to nine bytes, which may be no log.
     pub fn make<D: Disk>(disk: &mut D) -> Result<PayloadLog, LogFault>
         ensures ok { IfOk result (λ log. D.told disk.old ≡ Some []
             → StandsBy (D.told disk.new) (D.may_leave disk.new) [] log) }
@@ -43,9 +43,9 @@ impl PayloadLog {
         }
     }
 
-    /// Adds a record with this payload, by two writes with a sync behind each. A crash at any moment
-    /// leaves the log without the record or with it, and from its Ok on with it. After a `Disk` the
-    /// log has to be opened again.
+    /// Adds a record with this payload, by two writes with a sync behind each. A crash at any
+    /// moment leaves the log without the record or with it, and from its Ok on with it. After a
+    /// `Disk` the log has to be opened again.
     pub fn append<D: Disk>(
         &mut self,
         alloc: Global,

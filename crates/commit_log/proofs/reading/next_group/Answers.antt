@@ -6,7 +6,8 @@ use Rattle.commit_log.proofs.reading.next_group.Goals as goal
 pub returns-in_default-sized-clause-none : goal.returns-in_default-sized-clause-none
 returns-in_default-sized-clause-none c other is = (
   cc,
-  no_payload c.args.tables.now c.args.reader.now c.byte.new.self c.in-Some.gate c.in-Some.ensures.some
+  no_payload c.args.tables.now c.args.reader.now c.byte.new.self c.in-Some.gate
+      c.in-Some.ensures.some
       c.if-gate-eq0.false c.in_default-sized.ensures.none,
 )
 

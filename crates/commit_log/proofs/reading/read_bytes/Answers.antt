@@ -9,7 +9,8 @@ loop-disk-init g c = record {
   room = c.in_ok-piece.ensures;
   front = λ file told. c.in_ok-bytes.ensures.items
       ∙ sym (ap (λ l. take (length l) file) c.in_ok-bytes.ensures.items);
-  reads = no_call g.D.Disk.told g.D.Disk.may_leave g.D.Disk.moment g.D.Disk.left_since g.met.D.Disk.only_now
+  reads = no_call g.D.Disk.told g.D.Disk.may_leave g.D.Disk.moment g.D.Disk.left_since
+      g.met.D.Disk.only_now
       c.args.disk.now;
   started = refl;
   kept = refl;
@@ -32,13 +33,16 @@ loop-disk-preserved g c = record {
       c.len-in-loop-disk.ensures ∙ c.loop-disk.bytes.ok.0 in
       let size : length c.read.new.buf ≡ c.loop-disk.piece.len = omega arith in
       let filled = c.deref.ensures.value
-      ∙ take_at c.read.new.buf (drop (length c.read.new.buf) c.loop-disk.piece.items) c.loop-disk.piece.len size in
-      front_more file c.loop-disk.bytes.items c.split_at.result.0.now c.extend_from_slice.new.self.items
+      ∙ take_at c.read.new.buf (drop (length c.read.new.buf) c.loop-disk.piece.items)
+      c.loop-disk.piece.len size in
+      front_more file c.loop-disk.bytes.items c.split_at.result.0.now
+      c.extend_from_slice.new.self.items
       c.in-Ok.count (c.loop-disk.invariant.front file told)
       (c.split_at.ensures.front ∙ ap (λ (l : List ℕ). take c.in-Ok.count l) filled ∙ read.bytes
       ∙ ap (λ at. take c.in-Ok.count (drop at file)) place)
       c.split_at.ensures.front_len c.in_ok-extend_from_slice.ensures.items;
-  reads = one_call g.D.Disk.told g.D.Disk.may_leave g.D.Disk.moment g.D.Disk.left_since c.args.disk.now
+  reads = one_call g.D.Disk.told g.D.Disk.may_leave g.D.Disk.moment g.D.Disk.left_since
+      c.args.disk.now
       c.loop-disk.disk c.read.new.self c.loop-disk.invariant.reads c.in-Ok.ensures.told
       c.in-Ok.ensures.crash c.in-Ok.ensures.time;
   started = c.in-Ok.ensures.started ∙ c.loop-disk.invariant.started;
@@ -48,4 +52,10 @@ loop-disk-preserved g c = record {
 pub returns-clause-bytes : goal.returns-clause-bytes
 returns-clause-bytes g c file told =
     front_whole file c.loop-disk.bytes.items (c.loop-disk.invariant.front file told)
-    (omega (arith, c.loop-disk-test.false, c.requires file told, c.len.ensures, c.loop-disk.bytes.ok.0))
+    (omega (
+      arith,
+      c.loop-disk-test.false,
+      c.requires file told,
+      c.len.ensures,
+      c.loop-disk.bytes.ok.0,
+    ))

@@ -21,4 +21,5 @@ pub returns-clause-fit : goal.returns-clause-fit
 returns-clause-fit g c =
     subst (All (IsCommitOf c.args.tables.now))
     (c.in-Ok-commits_in.ensures.ok.same ∙ sym c.from.ensures)
-    (commits_fit c.args.tables.now c.in-Ok-commits_in.ensures.ok.groups c.in-Ok-commits_in.ensures.ok.are)
+    (commits_fit c.args.tables.now c.in-Ok-commits_in.ensures.ok.groups
+    c.in-Ok-commits_in.ensures.ok.are)
