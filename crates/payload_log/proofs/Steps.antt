@@ -1,6 +1,6 @@
 -- The four calls of a record, one after the other.
 use Rattle.std.proofs.Common.{◌≡◌, inl, ℕ, ◌+◌, ◌^◌, ◌<◌, List, [], ◌∷◌, ◌++◌, length, refl, sym}
-use Rattle.std.proofs.Common.{◌∙◌, ap, subst, Option, None, Some, drop}
+use Rattle.std.proofs.Common.{◌∙◌, ap, subst, Option, Some, drop}
 use Rattle.std.proofs.lemmas.List.{append-nil, nil_from_length}
 use Rattle.std.specs.Option.{ForSome}
 use Rattle.disk_ports.specs.Crashes.{Leaves, LeavesJust, LeavesOnly, NoMore, Elapses}
