@@ -10,3 +10,5 @@ mod crashes;
 mod files;
 #[cfg(test)]
 mod forms;
+#[cfg(test)]
+mod records;
