@@ -12,8 +12,7 @@ use Rattle.isolation_spec.specs.Contents.{History}
 use Rattle.log_spec.specs.Commits.{IsCommitOf}
 use Rattle.log_spec.specs.LogText.{IsLogAt, payload_text}
 use Rattle.log_spec.specs.Reading.{IsGroupOf, IsLogOf}
-use Rattle.payload_log.specs.Logs.{IsBeforeOrAfter, Stands, StandsBy}
-use Rattle.payload_log.specs.declared.log.PayloadLog.{PayloadLog}
+use Rattle.payload_log.specs.Logs.{IsBeforeOrAfter, StandsBy}
 use Rattle.commit_log.specs.Commits.{GivesOneOf, StandsOf}
 use Rattle.commit_log.specs.declared.log.Log.{Log}
 

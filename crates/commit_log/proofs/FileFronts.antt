@@ -1,6 +1,5 @@
 -- How a file is read from its front on.
 use Rattle.std.proofs.Common.{◌≡◌, ℕ, ◌+◌, ◌≤◌, List, ◌++◌, length, take, drop, Option, Some, Ok}
-use Rattle.std.proofs.Common.{Err}
 use Rattle.std.proofs.Common.{Result, sym, ◌∙◌, ap, subst, take-add, length-append}
 use Rattle.std.proofs.lemmas.List.{take_all}
 use Rattle.disk_ports.specs.FileSteps.{Reads, ReadsFrom}

@@ -1,6 +1,6 @@
 -- How calls of a disk that change nothing go on.
-use Rattle.std.proofs.Common.{◌≡◌, ◌∙◌, refl, ℕ, ◌≤◌, List, Option}
-use Rattle.disk_ports.specs.Crashes.{Elapses, LeavesOnly, NoMore}
+use Rattle.std.proofs.Common.{◌≡◌, ◌∙◌, refl, ℕ, List, Option}
+use Rattle.disk_ports.specs.Crashes.{Elapses, NoMore}
 use Rattle.disk_ports.proofs.Moments.{goes_on, started}
 use Rattle.commit_log.specs.Readings.{OnlyReads}
 

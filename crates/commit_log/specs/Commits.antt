@@ -4,7 +4,6 @@ use Rattle.cell_model.specs.declared.table.TableDecl.{TableDecl}
 use Rattle.disk_ports.specs.Crashes.{LeavesJust}
 use Rattle.isolation_spec.specs.Contents.{History}
 use Rattle.log_spec.specs.Reading.{Gives, IsLogOf}
-use Rattle.payload_log.specs.declared.log.PayloadLog.{PayloadLog}
 use Rattle.commit_log.specs.declared.log.Log.{Log}
 
 -- The log stands on the disk with these commits, a crash leaves just that, and no append of it met
