@@ -1,5 +1,5 @@
 //! Tests of the payloads of records, and of bytes that are the payload of no commits.
-use cell_model::{ByteWidth, Bytes, Cell, Column, Kind, Row, Schema, TableDecl};
+use cell_model::{ByteWidth, Bytes, Cell, Column, Kind, Row, Schema, TableDecl, are_named};
 use isolation_spec::Place;
 use log_records::{RecordFault, commits_of, fits, payload_of};
 use log_spec::WriteSet;
@@ -33,6 +33,9 @@ fn column(alloc: Global, name: &str, kind: Kind, nullable: bool) -> Result<Colum
 }
 
 fn table(alloc: Global, columns: Vec<Column>) -> Result<TableDecl, Fail> {
+    if !are_named(&columns) {
+        return Err(Fail::from("no names"));
+    }
     let Ok(schema) = Schema::new(columns) else {
         return Err(Fail::from("no schema"));
     };
