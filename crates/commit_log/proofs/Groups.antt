@@ -1,7 +1,6 @@
 -- How the records of a log are read one after the other.
-use Rattle.std.proofs.Common.{◌≡◌, ◌≢◌, inr, ℕ, ◌+◌, ◌-◌, ◌^◌, ◌<◌, ◌≤◌, List, [], ◌∷◌, ◌++◌}
-use Rattle.std.proofs.Common.{length, take, drop, refl, sym, ◌∙◌, ap, subst, arith}
-use Rattle.std.proofs.Common.{append_assoc}
+use Rattle.std.proofs.Common.{◌≡◌, ◌≢◌, inr, ℕ, ◌-◌, ◌^◌, ◌<◌, ◌≤◌, List, [], ◌∷◌, ◌++◌, length}
+use Rattle.std.proofs.Common.{take, drop, refl, sym, ◌∙◌, ap, subst, arith, append_assoc}
 use Rattle.std.proofs.Common.{length-append, take-append-drop}
 use Rattle.std.proofs.lemmas.List.{append-nil, map-append}
 use Rattle.std.proofs.lemmas.List.Elements.{All-nil, All-push}
@@ -10,8 +9,7 @@ use Rattle.std.specs.List.{flat_map}
 use Rattle.std.specs.Prelude.{MatchOption, Option, Some}
 use Rattle.cell_model.specs.declared.table.TableDecl.{TableDecl}
 use Rattle.isolation_spec.specs.Contents.{History}
-use Rattle.log_spec.specs.LogText.{Record, front_text, magic, payload_text, record_text}
-use Rattle.log_spec.specs.LogText.{sized}
+use Rattle.log_spec.specs.LogText.{Record, front_text, magic, payload_text, record_text, sized}
 use Rattle.log_spec.specs.Reading.{IsGroupOf, IsLogOf, IsNoLog, LeavesForm}
 use Rattle.log_spec.proofs.Fronts.{sized_front, tail_is}
 use Rattle.commit_log.specs.Readings.{HasGroup, IsClosed, SoFar}

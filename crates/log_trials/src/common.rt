@@ -1,5 +1,5 @@
 //! What the tests of logs share: a table, commits of rows of it, and appends and openings.
-use cell_model::{Bytes, Cell, Column, Kind, Row, Schema, TableDecl};
+use cell_model::{Bytes, Cell, Column, Kind, Row, Schema, TableDecl, are_named};
 use commit_log::{Disk, Log, LogFault, fits};
 use disk_ports::MemoryDisk;
 use isolation_spec::Place;
@@ -25,7 +25,11 @@ pub(crate) fn tables(alloc: Global) -> Result<Vec<TableDecl>, Fail> {
         kind: Kind::Utf8,
         nullable: true,
     };
-    let schema = Schema::new(vec![in alloc; key, text]?)?;
+    let columns = vec![in alloc; key, text]?;
+    if !are_named(&columns) {
+        return Err(Fail::from("no names"));
+    }
+    let schema = Schema::new(columns)?;
     let table = TableDecl {
         name: Bytes::from_slice(alloc, b"a".as_slice())?,
         schema,
