@@ -1,9 +1,10 @@
 -- The numbers that commits and snapshots show, and the write sets that stand under them.
-use Rattle.std.proofs.Common.{◌≡◌, ◌⊎◌, inl, inr, ℕ, ◌+◌, ◌*◌, ◌<◌, ◌≤◌, Bool, true, false, cond, ◌&&◌, eqb, nat_lt, nat_le, List, [], ◌∷◌, ◌++◌, Option, None, Some, refl, sym, ap, ◌∙◌, subst, arith}
+use Rattle.std.proofs.Common.{◌≡◌, ◌⊎◌, inl, inr, ℕ, ◌+◌, ◌*◌, ◌<◌, ◌≤◌, Bool, true, false, cond, ◌&&◌, eqb, nat_lt, nat_le, List, [], ◌∷◌, ◌++◌, length, Option, None, Some, refl, sym, ap, ◌∙◌, subst, arith}
 use Rattle.std.specs.Prelude.{is_some, option_and_then}
 use Rattle.std.specs.List.{count_by, find, list_all, list_any}
 use Rattle.std.specs.Option.{option_map_or}
 use Rattle.std.proofs.lemmas.Bool.{and_parts, eqb-true, ltb-true, leb-true}
+use Rattle.std.proofs.lemmas.List.FromFn.{length-map-range_with_len}
 use Rattle.isolation_spec.specs.Contents.{WriteSet}
 use Rattle.workload_spec.specs.declared.reply.Who.TheVariants.{Session}
 use Rattle.workload_spec.specs.declared.reply.Said.{Said}
@@ -162,12 +163,13 @@ find-none p (y ∷ xs) x none has h = by (p y) refl none has (find-none p xs x)
     by false is nothing (inl same) rest = let e : false ≡ true = sym is ∙ ap p same ∙ h in let never : ⊥ = cc in never
     by false is nothing (inr there) rest = rest nothing there h
 
--- The three parts of a conjunction that is true.
-three : (a b c : Bool) → (a && b && c) ≡ true → (a ≡ true) × (b ≡ true) × (c ≡ true)
-three true true true h = (refl, refl, refl)
-three false b c h = absurd (let never : ⊥ = cc in never)
-three true false c h = absurd (let never : ⊥ = cc in never)
-three true true false h = absurd (let never : ⊥ = cc in never)
+-- The four parts of a conjunction that is true.
+four : (a b c d : Bool) → (a && b && c && d) ≡ true → (a ≡ true) × (b ≡ true) × (c ≡ true) × (d ≡ true)
+four true true true true h = (refl, refl, refl, refl)
+four false b c d h = absurd (let never : ⊥ = cc in never)
+four true false c d h = absurd (let never : ⊥ = cc in never)
+four true true false d h = absurd (let never : ⊥ = cc in never)
+four true true true false h = absurd (let never : ⊥ = cc in never)
 
 -- ---- the order of the transactions
 
@@ -262,6 +264,10 @@ module _ (seed size : ℕ) (replies : List Entry) (told : Told seed size replies
 
   -- ---- snapshots
 
+  -- all commits are those that show a number
+  all-numbered : length run.history ≡ commit_count replies
+  all-numbered = length-map-range_with_len (committed_writes replies (transactions_of replies)) 1 (commit_count replies)
+
   pub record SnapshotFacts (e : Entry) (number : ℕ) : Type 0 where
     pub low : number ≤ commit_count replies
     pub earlier : (x : Entry) (k : ℕ) → Has x replies → is_before x e ≡ true → number_shown x.reply.said ≡ Some k → k ≤ number
@@ -272,11 +278,12 @@ module _ (seed size : ℕ) (replies : List Entry) (told : Told seed size replies
   snapshot-facts e number is has =
       let sound = sound-at seed size replies told e has in
       let holds : snapshot_holds run e (said.At number) ≡ true = subst (λ (s : Said). snapshot_holds run e s ≡ true) is sound.snapshots in
-      let parts = three (nat_le number (commit_count replies)) (list_all (λ earlier. nat_le earlier number) (shown_in number_shown (before replies e))) (list_all (λ later. nat_lt number later) (shown_in commit_in (after replies e))) holds in
+      let parts = four (nat_le number (length run.history)) (nat_le 0 number) (list_all (λ earlier. nat_le earlier number) (shown_in number_shown (before replies e)))
+      (list_all (λ later. nat_lt number later) (shown_in commit_in (after replies e))) holds in
       record {
-        low = leb-true number (commit_count replies) parts.0;
-        earlier = λ x k there is_before_it shows. leb-true k number (all-has (λ earlier. nat_le earlier number) (shown_in number_shown (before replies e)) k parts.1 (has-shown number_shown (before replies e) x k (has-filter (λ other. is_before other e) replies x there is_before_it) shows));
-        later = λ x k there is_behind_it shows. ltb-true number k (all-has (λ later. nat_lt number later) (shown_in commit_in (after replies e)) k parts.2 (has-shown commit_in (after replies e) x k (has-filter (λ other. is_before e other) replies x there is_behind_it) shows));
+        low = subst (λ (most : ℕ). number ≤ most) all-numbered (leb-true number (length run.history) parts.0);
+        earlier = λ x k there is_before_it shows. leb-true k number (all-has (λ earlier. nat_le earlier number) (shown_in number_shown (before replies e)) k parts.2 (has-shown number_shown (before replies e) x k (has-filter (λ other. is_before other e) replies x there is_before_it) shows));
+        later = λ x k there is_behind_it shows. ltb-true number k (all-has (λ later. nat_lt number later) (shown_in commit_in (after replies e)) k parts.3 (has-shown commit_in (after replies e) x k (has-filter (λ other. is_before e other) replies x there is_behind_it) shows));
       }
 
   -- so is that of each transaction
@@ -336,20 +343,13 @@ module _ (seed size : ℕ) (replies : List Entry) (told : Told seed size replies
       let sound = sound-at seed size replies told e (among-replies w among e (inr (inr (inr (inl refl))))) in
       let holds : commit_holds run e (said.Committed (Some k)) ≡ true = subst (λ (o : Option ℕ). commit_holds run e (said.Committed o) ≡ true) is sound.commits in
       let numbered = (and_parts (has_written run e) (Rattle.outcome_spec.specs.Numbers.is_commit_number run e k) holds).1 in
-      let parts = four (nat_le 1 k) (nat_le k (commit_count replies)) (eqb (count_by (commits_as k) replies) 1) (list_all (λ earlier. nat_lt earlier k) (shown_in commit_in (before replies e))) numbered in
+      let parts = four (nat_le 1 k) (nat_le k (length run.history)) (eqb (count_by (commits_as k) replies) 1) (list_all (λ earlier. nat_lt earlier k) (shown_in commit_in (before replies e))) numbered in
       record {
         least = leb-true 1 k parts.0;
-        low = leb-true k (commit_count replies) parts.1;
+        low = subst (λ (most : ℕ). k ≤ most) all-numbered (leb-true k (length run.history) parts.1);
         only = eqb-true (count_by (commits_as k) replies) 1 parts.2;
         earlier = λ x j there is_before_it shows. ltb-true j k (all-has (λ earlier. nat_lt earlier k) (shown_in commit_in (before replies e)) j parts.3 (has-shown commit_in (before replies e) x j (has-filter (λ other. is_before other e) replies x there is_before_it) shows));
       }
-    where
-      four : (a b c d : Bool) → (a && b && c && d) ≡ true → (a ≡ true) × (b ≡ true) × (c ≡ true) × (d ≡ true)
-      four true true true true h = (refl, refl, refl, refl)
-      four false b c d h = absurd (let never : ⊥ = cc in never)
-      four true false c d h = absurd (let never : ⊥ = cc in never)
-      four true true false d h = absurd (let never : ⊥ = cc in never)
-      four true true true false h = absurd (let never : ⊥ = cc in never)
 
   -- two of one round and session are one
   pub same-one : (v w : Wrote) → Has v transactions → Has w transactions → commit v ≡ commit w → v ≡ w

@@ -119,8 +119,8 @@ module _ (seed size : ℕ) (replies : List Entry) (told : Told seed size replies
       let run = run_of tables replies in
       let has : Has (insert w) replies = subst (Has (insert w)) (sym told.whole) (has-left (insert w) (entries_in told.parts) (last_entries told.last) (has-reply w (insert w) told.parts among (inr (inl refl)))) in
       let sound = sound-at seed size replies told (insert w) has in
-      let holds : nat_le (capacity_at tables 0) (inserts_in 0 (not_after replies (insert w))) ≡ true = subst (λ (s : Said). full_reply_holds run (insert w) s ≡ true) is sound.full in
-      let low : 32768 ≤ inserts_in 0 (not_after replies (insert w)) = leb-true 32768 (inserts_in 0 (not_after replies (insert w))) holds in
+      let holds : nat_le (capacity_at tables 0) (0 + inserts_in 0 (not_after replies (insert w))) ≡ true = subst (λ (s : Said). full_reply_holds run (insert w) s ≡ true) is sound.full in
+      let low : 32768 ≤ 0 + inserts_in 0 (not_after replies (insert w)) = leb-true 32768 (0 + inserts_in 0 (not_after replies (insert w))) holds in
       let part = filtered inserts (λ other. is_not_after other (insert w)) replies in
       let all = all-inserts w among (ap (λ (s : Said). is_accepted_insert 0 (insert w).command s) is) in
       omega (arith, low, part, all, small)

@@ -1,8 +1,8 @@
 -- What holds of every generated workload.
-use Rattle.std.specs.Prelude.{◌≡◌, ◌<◌, ◌≤◌, ◌^◌, ℕ, true, length, Ok}
+use Rattle.std.specs.Prelude.{◌≡◌, ◌<◌, ◌≤◌, ◌^◌, ℕ, length, Ok}
 use Rattle.workload_spec.specs.Grammar.{script_of}
 use Rattle.workload_spec.specs.ScriptText.{script_text}
-use Rattle.workload_spec.specs.Valid.{is_valid}
+use Rattle.workload_spec.specs.Valid.{IsWritten}
 use Rattle.bench_spec.specs.Generated.{generated}
 
 -- the most rounds of writes
@@ -11,7 +11,7 @@ most_size = 4096
 
 -- What is generated is a workload.
 abbrev pub GeneratesWorkloads : Type 0
-GeneratesWorkloads = (seed size : ℕ) → size ≤ most_size → is_valid (generated seed size) ≡ true
+GeneratesWorkloads = (seed size : ℕ) → size ≤ most_size → IsWritten (generated seed size)
 
 -- Its text is read as it.
 abbrev pub TextsAreRead : Type 0

@@ -7,7 +7,7 @@ use crate::keeping::{last_round, upkeep_round};
 use crate::table::bench_table;
 use crate::writing::{WRITERS, write_round};
 use std::alloc::{AllocError, Global};
-use workload_spec::{Round, Rounds, Script, Tables};
+use workload_spec::{History, Round, Rounds, Script, Tables};
 
 /// Upkeep stands behind each round whose number is a multiple of this.
 const UPKEEP_ROUNDS: u32 = 16;
@@ -35,6 +35,7 @@ pub fn generate(alloc: Global, seed: u64, size: u32) -> Result<Script, AllocErro
         workers: 0,
         turns: 0,
         rounds: Rounds::from(rounds),
+        begun: History::new(alloc),
     })
 }
 

@@ -109,6 +109,7 @@ bench_script rounds = record {
   workers = 0;
   turns = 0;
   rounds = rounds;
+  begun = [];
 }
 
 -- The workload that a seed generates, with so many rounds of writes.

@@ -1,5 +1,5 @@
 //! A table's head.
-ghost use Rattle.std.specs.Prelude.{◌≡◌, ◌+◌, ◌<◌, ◌≤◌, ◌^◌, IfOk, IfSome, IfNone, length};
+ghost use Rattle.std.specs.Prelude.{◌≡◌, ℕ, ◌+◌, ◌<◌, ◌≤◌, ◌^◌, IfOk, IfSome, IfNone, length};
 ghost use Rattle.std.specs.List.{insert};
 ghost use Rattle.event_spec.specs.Effects.{taken_by};
 ghost use Rattle.event_spec.specs.Judged.{next_place};
@@ -45,7 +45,7 @@ impl TableHead {
     /// The head of a table before its first event: block 0 takes inserts, and the others are empty.
     pub fn new(alloc: Global, blocks: u32) -> Result<TableHead, AllocError>
         requires { blocks ≤ 2 ^ 10 }
-        ensures { IfOk result (λ head. head ≡ opening_head blocks) }
+        ensures { IfOk result (λ head. (slots : ℕ) → head ≡ opening_head blocks slots 0) }
     {
         let mut empty = Vec::with_capacity(alloc, MOST_BLOCKS as usize)?;
         for block in 1..blocks {

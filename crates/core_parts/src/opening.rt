@@ -21,8 +21,10 @@ use txn_desk::Desk;
 /// The shards of a table's index.
 const SHARDS: u32 = 8;
 
-/// A hand that has every part of a core before its first event.
+/// A hand that has every part of a core before its first event, where the core begins with no
+/// commit.
 pub fn opening_hand(shape: &Shape) -> Result<Hand<CorePart>, AllocError>
+    requires { shape.now.first ≡ [] }
     ensures { IfOk result (λ hand. hand ≡ all_in (opening shape.now)) }
 {
     let mut places = Vec::with_capacity(shape.alloc(), shape.desk() as usize + 1)?;
@@ -35,6 +37,7 @@ pub fn opening_hand(shape: &Shape) -> Result<Hand<CorePart>, AllocError>
 
 /// Adds the heads, table by table.
 fn add_heads(shape: &Shape, places: &mut Vec<Option<CorePart>>) -> Result<(), AllocError>
+    requires { shape.now.first ≡ [] }
     ensures { OnOk result (places.new.items ≡ places.old.items
         ++ placed shape.now (map HeadOf (tables_of shape.now))) }
 {
@@ -48,6 +51,7 @@ fn add_heads(shape: &Shape, places: &mut Vec<Option<CorePart>>) -> Result<(), Al
 
 /// Adds the shards, table by table.
 fn add_shards(shape: &Shape, places: &mut Vec<Option<CorePart>>) -> Result<(), AllocError>
+    requires { shape.now.first ≡ [] }
     ensures { OnOk result (places.new.items ≡ places.old.items
         ++ placed shape.now (flat_map (λ table. map (ShardOf table) (below 8))
         (tables_of shape.now))) }
@@ -65,6 +69,7 @@ fn add_shards_of(
     places: &mut Vec<Option<CorePart>>,
     table: u32,
 ) -> Result<(), AllocError>
+    requires { shape.now.first ≡ [] }
     ensures { OnOk result (places.new.items ≡ places.old.items
         ++ placed shape.now (map (ShardOf table) (below 8))) }
 {
@@ -77,6 +82,7 @@ fn add_shards_of(
 
 /// Adds the bodies, table by table.
 fn add_bodies(shape: &Shape, places: &mut Vec<Option<CorePart>>) -> Result<(), AllocError>
+    requires { shape.now.first ≡ [] }
     ensures { OnOk result (places.new.items ≡ places.old.items ++ placed shape.now
         (flat_map (λ table. map (BodyOf table) (below (blocks_of shape.now table)))
         (tables_of shape.now))) }
@@ -94,7 +100,8 @@ fn add_bodies_of(
     places: &mut Vec<Option<CorePart>>,
     table: u32,
 ) -> Result<(), AllocError>
-    requires { HasTable shape.now table }
+    requires table { HasTable shape.now table }
+    requires none { shape.now.first ≡ [] }
     ensures { OnOk result (places.new.items ≡ places.old.items
         ++ placed shape.now (map (BodyOf table) (below (blocks_of shape.now table)))) }
 {
@@ -108,6 +115,7 @@ fn add_bodies_of(
 
 /// Adds the desk.
 fn add_desk(shape: &Shape, places: &mut Vec<Option<CorePart>>) -> Result<(), AllocError>
+    requires { shape.now.first ≡ [] }
     ensures { OnOk result (places.new.items ≡ places.old.items ++ placed shape.now (TheDesk ∷ [])) }
 {
     let desk = Desk::build(shape.alloc(), shape.passes())?;

@@ -1,5 +1,6 @@
 //! What numbers the parts.
-ghost use Rattle.std.specs.Prelude.{◌≡◌, ◌+◌, ◌*◌, ◌^◌, ◌<◌, ◌≤◌, Some, IfOk, length, slice_get};
+ghost use Rattle.std.specs.Prelude.{◌≡◌, ◌+◌, ◌*◌, ◌^◌, ◌<◌, ◌≤◌, [], Some, IfOk, length};
+ghost use Rattle.std.specs.Prelude.{slice_get};
 ghost use Rattle.cell_model.specs.Schemas.{IsSchema};
 ghost use Rattle.core_parts.specs.Numbers.{AreNumbers, IsOfSize, after_bodies};
 ghost use Rattle.event_spec.specs.Lawful.{HasBlock, HasTable};
@@ -12,7 +13,7 @@ use std::alloc::{AllocError, Global};
 use std::marker::Model;
 
 /// The tables of a core, the number of its passes, and with them the number of each of its parts.
-/// Contracts see the record of `event_spec`.
+/// Contracts see the record of `event_spec`, of a core that begins with no commit.
 #[derive(Drop)]
 pub struct Shape {
     alloc: Global,
@@ -25,12 +26,17 @@ pub struct Shape {
 }
 
 impl Model for Shape {
+    ghost use Rattle.std.specs.Prelude.{[]};
     ghost use Rattle.event_spec.specs.Parts.{Shape as ShapeValue};
     ghost use Rattle.core_parts.specs.Numbers.{AreNumbers, IsOfSize};
 
     ghost Value = { ShapeValue };
 
-    ghost view = { λ shape. record { tables = shape.tables.items; passes = shape.passes } };
+    ghost view = { λ shape. record {
+      tables = shape.tables.items;
+      passes = shape.passes;
+      first = [];
+    } };
 
     ghost invariant = { λ shape. AreNumbers shape.tables.items shape.bodies.items shape.desk
         × IsOfSize shape.tables.items shape.passes };
@@ -58,10 +64,11 @@ fn numbers_of(alloc: Global, tables: &[TableDecl]) -> Result<(Vec<u32>, u32), Al
 }
 
 impl Shape {
-    /// The shape of a core with these tables, for so many passes.
+    /// The shape of a core with these tables, for so many passes, that begins with no commit.
     pub fn new(alloc: Global, tables: Vec<TableDecl>, passes: u32) -> Result<Shape, AllocError>
         requires { IsOfSize tables.items passes }
-        ensures { IfOk result (λ shape. shape ≡ record { tables = tables.items; passes = passes }) }
+        ensures { IfOk result (λ shape. shape
+            ≡ record { tables = tables.items; passes = passes; first = [] }) }
     {
         let (bodies, desk) = numbers_of(alloc, &tables)?;
         Ok(Shape {

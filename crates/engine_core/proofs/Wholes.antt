@@ -2,7 +2,7 @@
 use Rattle.std.proofs.Common.{◌≡◌, ℕ, zero, suc, ◌<◌, ◌≤◌, Bool, true, false, MatchBool, cond, ℤ, ◌^◌, List, [], ◌∷◌, Option, Some, length, refl, sym, ap, ◌∙◌, subst, arith}
 use Rattle.std.specs.Prelude.{All, option_map, unwrap_or, slice_get}
 use Rattle.std.proofs.lemmas.List.{length-map}
-use Rattle.std.proofs.lemmas.List.Elements.{All-head, All-tail}
+use Rattle.std.proofs.lemmas.List.Elements.{All-head, All-nil, All-tail}
 use Rattle.cell_model.specs.declared.table.TableDecl.{TableDecl}
 use Rattle.core_parts.specs.Hands.{Has, Held, Makes, MayRun, after, hand_changed, in_hand}
 use Rattle.engine_core.specs.Core.{IsOpening, IsWhole, MayOpen, is_memory, parts_in}
@@ -10,13 +10,15 @@ use Rattle.event_spec.specs.declared.reply.Reply.TheVariants as reply
 use Rattle.event_spec.specs.Effects.{CoreEvent, changes_of, effect}
 use Rattle.event_spec.specs.Lawful.{Among, HasBlock, HasTable, IsLawful}
 use Rattle.event_spec.specs.Parts.{BodyOf, Changes, CorePart, Parts, Shape, ShardOf, Name, changed, each_changed, held_named, names, part_named, same_name, shard_of}
-use Rattle.event_spec.specs.Replay.{opening}
+use Rattle.event_spec.specs.Replay.{opening, rows_first}
 use Rattle.event_spec.specs.Replay as replay
 use Rattle.event_spec.specs.Replies.{CoreReply}
 use Rattle.core_laws.proofs.Events.Naming.{at_name, body_named, shard_named}
 use Rattle.core_laws.proofs.Events.Places.{shard_small}
 use Rattle.event_spec.specs.Sound.{IsOfKind, IsShape}
 use Rattle.core_laws.proofs.Frames.Reached.{core_kept, core_opens}
+use Rattle.core_laws.proofs.Logs.Opening.{no_rows}
+use Rattle.isolation_spec.specs.Commits.{AreCommitsOf, IsCommitOf}
 use Rattle.core_laws.specs.Frames.Shards.{CoreHolds}
 use Rattle.hall_rule.specs.Hands.{Agrees, Holds, all_in}
 
@@ -146,23 +148,27 @@ declared (table ∷ tables) P f all zero less = All-head (λ (table : TableDecl)
 declared (table ∷ tables) P f all (suc t) less = declared tables P f (All-tail (λ (table : TableDecl). P (f table)) table tables all) t (omega (arith, less))
 
 -- what a core may be made of is a shape
-pub shape_is : (sh : Shape) → MayOpen sh.tables sh.passes → IsShape sh
-shape_is sh may = record {
+pub shape_is : (sh : Shape) → MayOpen sh.tables sh.passes → sh.first ≡ [] → IsShape sh
+shape_is sh may none = record {
   tables = may.few;
   blocks = λ t has. declared sh.tables (λ n. 1 ≤ n) (λ (table : TableDecl). table.blocks) may.blocks t has;
   slots = λ t has. (
     declared sh.tables (λ n. 1 ≤ n) (λ (table : TableDecl). table.slots) may.slots t has,
     declared sh.tables (λ n. n ≤ 2 ^ 15) (λ (table : TableDecl). table.slots) may.size.slots_few t has,
   );
+  commits = subst (AreCommitsOf sh.tables) (sym none) (All-nil (IsCommitOf sh.tables));
+  few = let long : length sh.first ≡ 0 = ap length none in omega (arith, long);
+  room = λ t has. let rows : length (rows_first sh t) ≡ 0 = ap length (no_rows sh none t) in omega (arith, rows);
+  none = none;
 }
 
 -- the hand of an opening core is whole
-pub opening_whole : (sh : Shape) (hand : Held) → MayOpen sh.tables sh.passes → hand ≡ all_in (opening sh) → IsWhole sh hand
-opening_whole sh hand may is = subst (IsWhole sh) (sym is) (record {
+pub opening_whole : (sh : Shape) (hand : Held) → MayOpen sh.tables sh.passes → sh.first ≡ [] → hand ≡ all_in (opening sh) → IsWhole sh hand
+opening_whole sh hand may none is = subst (IsWhole sh) (sym is) (record {
   all = ap all_in (sym (in_all (opening sh)));
-  holds = subst (CoreHolds sh) (sym (in_all (opening sh))) (core_opens sh (shape_is sh may));
+  holds = subst (CoreHolds sh) (sym (in_all (opening sh))) (core_opens sh (shape_is sh may none));
 })
 
 -- no event was made on the parts of an opening hand
-pub opening_is : (sh : Shape) (hand : Held) → MayOpen sh.tables sh.passes → hand ≡ all_in (opening sh) → IsOpening sh (parts_in hand)
-opening_is sh hand may is = record { measures = shape_is sh may; parts_are = ap parts_in is ∙ in_all (opening sh) }
+pub opening_is : (sh : Shape) (hand : Held) → MayOpen sh.tables sh.passes → sh.first ≡ [] → hand ≡ all_in (opening sh) → IsOpening sh (parts_in hand)
+opening_is sh hand may none is = record { measures = shape_is sh may none; parts_are = ap parts_in is ∙ in_all (opening sh) }

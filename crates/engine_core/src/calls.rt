@@ -1,5 +1,5 @@
 //! What a core is asked as a whole, where one thread has all its parts.
-ghost use Rattle.std.specs.Prelude.{◌≡◌, ◌+◌, ◌≤◌, None, true, IfOk};
+ghost use Rattle.std.specs.Prelude.{◌≡◌, ◌+◌, ◌≤◌, [], None, true, IfOk};
 ghost use Rattle.engine_core.specs.Asks.{imaged_block};
 ghost use Rattle.engine_core.specs.Core.{IsOpening, MayOpen, is_memory};
 ghost use Rattle.engine_core.specs.Costs.{cost_of};
@@ -20,11 +20,12 @@ use std::sync::ledger::Ledger;
 use std::thread::Threads;
 
 impl Core {
-    /// A core of these tables, for the sessions 1 to `passes`, before its first event.
+    /// A core of these tables, for the sessions 1 to `passes`, before its first event. It begins with
+    /// no commit.
     pub fn new(alloc: Global, tables: Vec<TableDecl>, passes: u32) -> Result<Core, AllocError>
         requires { MayOpen tables.items passes }
         ensures shape { IfOk result (λ core. core.shape
-            ≡ record { tables = tables.items; passes = passes }) }
+            ≡ record { tables = tables.items; passes = passes; first = [] }) }
         ensures opening { IfOk result (λ core. IsOpening core.shape core.parts) }
     {
         let shape = Shape::new(alloc, tables, passes)?;

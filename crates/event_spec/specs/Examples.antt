@@ -59,7 +59,7 @@ HeadsTakeSlotsInOrder =
 -- A block that became empty is the head's again, and an empty head begins anew.
 abbrev pub EmptyBlocksAreTheHeads : Type 0
 EmptyBlocksAreTheHeads =
-    (opening_head 3 ≡ record { block = 0; taken = 0; inserts = 0; empty = 1 ∷ 2 ∷ [] })
+    (opening_head 3 8 0 ≡ record { block = 0; taken = 0; inserts = 0; empty = 1 ∷ 2 ∷ [] })
     × (with_empty 5 (λ block. block == 3) full_head ≡ record full_head { empty = 3 ∷ [] })
     × (with_empty 5 (λ block. (block == 0) || (block == 3)) full_head
     ≡ record full_head { taken = 0; empty = 3 ∷ [] })
@@ -194,7 +194,7 @@ table_of name = record { name = name; schema = narrow; slots = 4; blocks = 2 }
 
 -- two tables of two blocks with four slots, for three sessions
 abbrev pub shape : Shape
-shape = record { tables = table_of (codes "t") ∷ table_of (codes "u") ∷ []; passes = 3 }
+shape = record { tables = table_of (codes "t") ∷ table_of (codes "u") ∷ []; passes = 3; first = [] }
 
 -- There are two heads, sixteen shards, four bodies and a desk, in this order; a key's lowest three
 -- bits tell its shard.
@@ -288,7 +288,7 @@ abbrev pub AbortsLeaveNothing : Type 0
 AbortsLeaveNothing =
     (slot_at shape (effect shape after_put (event.Abort wrote)) 0 0 ≡ bare)
     × (head_at shape (effect shape after_put (event.Abort wrote)) 0
-    ≡ record (opening_head 2) { inserts = 1 })
+    ≡ record (opening_head 2 4 0) { inserts = 1 })
 
 -- A session reads its own put, another does not, and a key that it wrote elsewhere is left out.
 abbrev pub ReadsSeeOwnWrites : Type 0

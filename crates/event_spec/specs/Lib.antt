@@ -13,3 +13,4 @@ pub mod Sound
 pub mod Examples
 pub mod StaleExamples
 pub mod RangeExamples
+pub mod BegunExamples

@@ -11,6 +11,7 @@ use Rattle.cell_model.specs.declared.table.TableDecl.{TableDecl}
 use Rattle.event_spec.specs.declared.part.Head.{Head}
 use Rattle.event_spec.specs.declared.part.Part.{Part}
 use Rattle.event_spec.specs.declared.part.Part.TheVariants as part
+use Rattle.isolation_spec.specs.Contents.{History}
 use Rattle.key_index.specs.Candidates.{Places, candidates_of}
 use Rattle.txn_desk.specs.Desk.{DeskState}
 
@@ -21,11 +22,12 @@ CorePart = Part Head Places Body DeskState
 abbrev pub Parts : Type 0
 Parts = List CorePart
 
--- What numbers the parts: the tables, and for how many passes the core was made. No event changes
--- it.
+-- What the core was made of, which numbers the parts: the tables, the number of its passes, and the
+-- commits that it begins with. No event changes it.
 pub record Shape : Type 0 where
   pub tables : List TableDecl
   pub passes : ℕ
+  pub first : History
 
 -- What each part is: a table's head, one of its eight index shards, one of its blocks' bodies, or
 -- the desk.

@@ -1,6 +1,6 @@
 -- What holds of every state that lawful events reach.
-use Rattle.std.specs.Prelude.{◌≡◌, ◌≢◌, ⊤, ℕ, ◌<◌, ◌≤◌, ◌^◌, true, false, not, ◌&&◌, ◌==◌, Option}
-use Rattle.std.specs.Prelude.{Some, All, filter, length}
+use Rattle.std.specs.Prelude.{◌≡◌, ◌≢◌, ⊤, ℕ, ◌<◌, ◌≤◌, ◌*◌, ◌^◌, true, false, not, ◌&&◌, ◌==◌}
+use Rattle.std.specs.Prelude.{Option, Some, All, [], filter, length}
 use Rattle.block_spec.specs.declared.phase.Phase.TheVariants.{Sealed, Imaged}
 use Rattle.block_spec.specs.Fitting.{columns_of}
 use Rattle.block_spec.specs.Slots.{Slot, is_bare}
@@ -11,8 +11,9 @@ use Rattle.event_spec.specs.Lawful.{HasTable, HasBlock}
 use Rattle.event_spec.specs.Parts.{CorePart, Parts, Shape, Name, HeadOf, ShardOf, BodyOf, TheDesk}
 use Rattle.event_spec.specs.Parts.{names, part_at, head_at, body_at, desk_at, slot_at, places_at}
 use Rattle.event_spec.specs.Parts.{blocks_of, slots_of, below}
-use Rattle.event_spec.specs.Replay.{columns_in}
+use Rattle.event_spec.specs.Replay.{columns_in, rows_first}
 use Rattle.event_spec.specs.SlotSound.{VersionsFit}
+use Rattle.isolation_spec.specs.Commits.{AreCommitsOf}
 use Rattle.isolation_spec.specs.Machine.{IsolationMachine}
 
 -- The part of a name is there and of its kind.
@@ -76,9 +77,16 @@ pub record Sound (shape : Shape) (parts : Parts) : Type 0 where
   pub no_head : (table block : ℕ) → HasBlock shape table block → IsNoHead shape parts table block
   pub sessions : length (desk_at shape parts).open_snapshots ≡ shape.passes
 
--- There are at most 16 tables, and each has a block, and between 1 and 2 ^ 15 slots in it.
+-- There are at most 16 tables, and each has a block, and between 1 and 2 ^ 15 slots in it. What the
+-- core begins with are commits of the tables, at most 2 ^ 63, which leave no table more rows than it
+-- takes. So far there are none.
 pub record IsShape (shape : Shape) : Type 0 where
   pub tables : length shape.tables ≤ 16
   pub blocks : (table : ℕ) → HasTable shape table → 1 ≤ blocks_of shape table
   pub slots : (table : ℕ) → HasTable shape table → (1 ≤ slots_of shape table)
       × (slots_of shape table ≤ 2 ^ 15)
+  pub commits : AreCommitsOf shape.tables shape.first
+  pub few : length shape.first ≤ 2 ^ 63
+  pub room : (table : ℕ) → HasTable shape table
+      → length (rows_first shape table) ≤ blocks_of shape table * slots_of shape table
+  pub none : shape.first ≡ []

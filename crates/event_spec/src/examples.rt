@@ -1,4 +1,7 @@
 //! Worked examples of events: each is a fact that the definitions compute.
+ghost use Rattle.event_spec.specs.BegunExamples.{DesksKnowTheCommits, HeadsStandBehindRows};
+ghost use Rattle.event_spec.specs.BegunExamples.{KeysHaveTheirPlaces, OthersAreNoShapes};
+ghost use Rattle.event_spec.specs.BegunExamples.{RowsFillSlots};
 ghost use Rattle.event_spec.specs.Examples.{HeadsTakeSlotsInOrder, EmptyBlocksAreTheHeads};
 ghost use Rattle.event_spec.specs.Examples.{ConflictsGoFirst, InsertsFindASlot, ChangesFindTheRow};
 ghost use Rattle.event_spec.specs.Examples.{MovedRowsAreFound, UpdatesChangeWhatDiffers};
@@ -139,4 +142,29 @@ pub fn freezes_go_in_turn()
 /// Events are replayed in turn, and one that is refused memory changes nothing.
 pub fn logs_are_replayed()
     ensures { LogsAreReplayed }
+{}
+
+/// A head stands behind the rows that its core begins with.
+pub fn heads_stand_behind_rows()
+    ensures { HeadsStandBehindRows }
+{}
+
+/// The rows that a core begins with fill slots in the order of their keys.
+pub fn rows_fill_slots()
+    ensures { RowsFillSlots }
+{}
+
+/// The index of a core knows the places of the rows that it begins with.
+pub fn keys_have_their_places()
+    ensures { KeysHaveTheirPlaces }
+{}
+
+/// The desk of a core knows the commits that it begins with.
+pub fn desks_know_the_commits()
+    ensures { DesksKnowTheCommits }
+{}
+
+/// With what no core begins.
+pub fn others_are_no_shapes()
+    ensures { OthersAreNoShapes }
 {}

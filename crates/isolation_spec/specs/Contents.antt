@@ -1,6 +1,6 @@
 -- State of several tables as finite maps, and what write sets make of them.
 use Rattle.std.specs.Prelude.{ℕ, Bool, ◌&&◌, ◌==◌, List, [], ◌∷◌, ℤ, pos, ◌+ℤ◌, take, fold}
-use Rattle.std.specs.Prelude.{filter_map, find, option_map, option_and_then, slice_get}
+use Rattle.std.specs.Prelude.{filter_map, find, length, option_map, option_and_then, slice_get}
 use Rattle.std.specs.Prelude.{if◌then◌else◌, Option, None, Some}
 use Rattle.std.specs.Ordering.{nat_cmp, int_cmp, ordering_then, is_eq}
 use Rattle.std.specs.declared.cmp.Ordering.{Ordering}
@@ -62,6 +62,10 @@ state_at history n = fold laid_over [] (take n history)
 abbrev pub contents_of : ℕ → State → List (List Cell)
 contents_of table rows = filter_map (λ entry. if entry.0.table == table then Some entry.1 else None)
     rows
+
+-- The rows of a table that commits leave, in the order of their keys.
+abbrev pub rows_left : History → ℕ → List (List Cell)
+rows_left commits table = contents_of table (state_at commits (length commits))
 
 -- the place is one of this table with a key between two, both counted
 abbrev pub is_in_range : ℕ → ℤ → ℤ → Place → Bool

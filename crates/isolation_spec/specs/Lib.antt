@@ -1,8 +1,10 @@
 pub mod Contents
 pub mod Order
+pub mod Commits
 pub mod Machine
 pub mod Reads
 pub mod Checked
 pub mod Store
 pub mod Examples
 pub mod CheckedExamples
+pub mod BegunExamples

@@ -28,9 +28,13 @@ pub record IsolationMachine : Type 0 where
   pub history : History
   pub open_transactions : List Transaction
 
+-- The machine that begins with these commits: no transaction is open.
+abbrev pub opening_from : History → IsolationMachine
+opening_from first = record { history = first; open_transactions = [] }
+
 -- nothing was committed, and no transaction is open
 abbrev pub opening : IsolationMachine
-opening = record { history = []; open_transactions = [] }
+opening = opening_from []
 
 -- the open transaction of a session
 abbrev pub transaction_of : ℕ → IsolationMachine → Option Transaction

@@ -1,4 +1,6 @@
 //! Worked examples of the machine: each is a fact that its definitions compute.
+ghost use Rattle.isolation_spec.specs.BegunExamples.{BeginsWithCommits, CommitsOfATable};
+ghost use Rattle.isolation_spec.specs.BegunExamples.{OthersAreNoCommits, RowsAreLeft};
 ghost use Rattle.isolation_spec.specs.CheckedExamples.{WriteSkew, PlainSkew, Phantom, ComesAndGoes};
 ghost use Rattle.isolation_spec.specs.CheckedExamples.{RangesHaveBothEnds, KeyFirst};
 ghost use Rattle.isolation_spec.specs.CheckedExamples.{TableBeforeRange, FirstRangeFirst};
@@ -148,4 +150,24 @@ pub fn a_range_gives_the_rows_between_its_keys()
 pub fn a_total_counts_and_adds_numbers()
     ensures numbers { TotalOfNumbers }
     ensures read { TotalIsARead }
+{}
+
+/// A machine that begins with commits numbers on behind them, and its snapshots see them.
+pub fn a_machine_begins_with_commits()
+    ensures { BeginsWithCommits }
+{}
+
+/// Which write sets are commits of a table.
+pub fn commits_of_a_table()
+    ensures { CommitsOfATable }
+{}
+
+/// Which write sets and writes are none.
+pub fn other_writes_are_no_commits()
+    ensures { OthersAreNoCommits }
+{}
+
+/// Which rows commits leave.
+pub fn rows_are_left_by_commits()
+    ensures { RowsAreLeft }
 {}

@@ -4,9 +4,11 @@
 
 pub mod command;
 pub mod examples;
+pub mod history;
 pub mod place;
 pub mod read;
 
 pub use command::{Act, Answer, Command};
+pub use history::{History, WriteSet};
 pub use place::Place;
 pub use read::{KeyRange, Read};

@@ -1,13 +1,14 @@
 -- What each condition asks, by what the reply tells.
-use Rattle.std.proofs.Common.{◌≡◌, ℕ, ◌<◌, true, List, length, refl, ap}
+use Rattle.std.proofs.Common.{◌≡◌, ℕ, ◌+◌, ◌<◌, nat_le, Bool, true, List, length, refl, ap, arith}
 use Rattle.std.specs.Option.{option_map_or}
 use Rattle.std.specs.Prelude.{slice_index_or}
 use Rattle.std.proofs.lemmas.List.{get_or_read}
 use Rattle.workload_spec.specs.declared.reply.Said.{Said}
 use Rattle.workload_spec.specs.declared.reply.Said.TheVariants as said
-use Rattle.outcome_spec.specs.Entries.{Entry}
-use Rattle.outcome_spec.specs.Runs.{Run}
-use Rattle.outcome_spec.specs.Upkeep.{freezing_reply_holds, full_reply_holds}
+use Rattle.cell_model.specs.declared.table.TableDecl.{TableDecl}
+use Rattle.outcome_spec.specs.Entries.{Entry, not_after}
+use Rattle.outcome_spec.specs.Runs.{Run, run_of}
+use Rattle.outcome_spec.specs.Upkeep.{capacity_at, freezing_reply_holds, full_reply_holds, inserted_table, inserts_in}
 use Rattle.output_read.specs.Kept.{entry_of}
 use Rattle.output_read.specs.declared.kept.KeptReply.{KeptReply}
 use Rattle.outcome_counts.specs.Asked.{asked_at}
@@ -23,7 +24,13 @@ pub freezing-by : (run : Run) (entry : Entry) (told : Said) → freezing_reply_h
 freezing-by run entry (said.Freezing table block stamp) = refl
 freezing-by run entry _ = refl
 
--- what is asked of a reply that says `full` is asked by its table
-pub full-by : (run : Run) (entry : Entry) (told : Said) → full_reply_holds run entry told ≡ option_map_or (λ table. is_full run.tables run.entries table entry) (full_told entry.command told) true
-full-by run entry said.Full = refl
-full-by run entry _ = refl
+-- what is asked of a reply that says `full` is asked by its table, where the store began with nothing
+pub full-by : (tables : List TableDecl) (entries : List Entry) (entry : Entry) (told : Said)
+    → full_reply_holds (run_of tables entries) entry told ≡ option_map_or (λ table. is_full tables entries table entry) (full_told entry.command told) true
+full-by tables entries entry said.Full =
+    ap (λ (rule : ℕ → Bool). option_map_or rule (inserted_table entry.command) true)
+    (λ i table. nat_le (capacity_at tables table) (none (inserts_in table (not_after entries entry)) i))
+  where
+    none : (n : ℕ) → 0 + n ≡ n
+    none n = omega arith
+full-by tables entries entry _ = refl

@@ -1,15 +1,18 @@
 -- What the definitions ask of numbers, by counts and the highest.
-use Rattle.std.proofs.Common.{◌≡◌, ℕ, ◌+◌, ◌-◌, ◌^◌, ◌<◌, Bool, true, false, List, [], ◌∷◌, nat_lt, nat_le, Option, None, Some, refl, sym, ap, ◌∙◌, arith}
-use Rattle.std.specs.List.{count_by, list_all}
+use Rattle.std.proofs.Common.{◌≡◌, ℕ, ◌+◌, ◌-◌, ◌^◌, ◌<◌, Bool, true, false, List, [], ◌∷◌, length, nat_lt, nat_le, Option, None, Some, refl, sym, ap, ◌∙◌, arith}
+use Rattle.std.specs.List.{count_by, list_all, range_with_len}
 use Rattle.std.specs.Option.{option_map_or}
 use Rattle.std.specs.Ordering.{is_eq, nat_cmp}
 use Rattle.std.specs.Prelude.{◌==◌, ◌&&◌}
 use Rattle.std.proofs.lemmas.Bool.Decides.{nat_tests}
+use Rattle.std.proofs.lemmas.List.{length-map}
+use Rattle.std.proofs.lemmas.List.FromFn.{length-range_with_len}
+use Rattle.cell_model.specs.declared.table.TableDecl.{TableDecl}
 use Rattle.workload_spec.specs.declared.reply.Said.{Said}
 use Rattle.workload_spec.specs.declared.reply.Said.TheVariants as said
-use Rattle.outcome_spec.specs.Entries.{Entry, commit_in, shown_in, snapshot_in}
+use Rattle.outcome_spec.specs.Entries.{Entry, after, before, commit_in, shown_in, snapshot_in}
 use Rattle.outcome_spec.specs.Numbers.{number_shown, snapshot_holds}
-use Rattle.outcome_spec.specs.Runs.{Run, commits_as, commit_count}
+use Rattle.outcome_spec.specs.Runs.{commits_as, commit_count, committed_writes, run_of, transactions_of}
 use Rattle.mark_index.specs.Marks.{highest}
 use Rattle.outcome_counts.specs.LaterCommits.{below_commit}
 use Rattle.outcome_counts.specs.NumberMarks.{is_commit_of, is_numbered, above_commit, above_shown}
@@ -60,7 +63,24 @@ shown-up-to number entries =
 pub commits-above : (number : ℕ) → number < 2 ^ 64 → (entries : List Entry) → list_all (λ later. nat_lt number later) (shown_in commit_in entries) ≡ nat_lt (highest below_commit entries) (2 ^ 64 - number)
 commits-above number small entries = all-above (2 ^ 64) number small (λ (e : Entry). commit_in e.reply.said) entries
 
--- what is asked of a reply that shows a snapshot is asked by its number
-pub snapshot-by : (run : Run) (entry : Entry) (told : Said) → snapshot_holds run entry told ≡ option_map_or (λ number. is_snapshot run.entries number entry) (snapshot_in told) true
-snapshot-by run entry (said.At number) = refl
-snapshot-by run entry _ = refl
+-- where the store began with nothing, all commits are those that show a number
+pub all-numbered : (tables : List TableDecl) (entries : List Entry) → length (run_of tables entries).history ≡ commit_count entries
+all-numbered tables entries =
+    length-map (range_with_len 1 (commit_count entries)) (committed_writes entries (transactions_of entries))
+    ∙ length-range_with_len 1 (commit_count entries)
+
+-- each number is at least 0
+at-least-none : (all earlier later least : Bool) → least ≡ true → (all && least && earlier && later) ≡ (all && earlier && later)
+at-least-none true earlier later least is = ap (λ (b : Bool). b && earlier && later) is
+at-least-none false earlier later least is = refl
+
+-- what is asked there of a reply that shows a snapshot is asked by its number
+pub snapshot-by : (tables : List TableDecl) (entries : List Entry) (entry : Entry) (told : Said)
+    → snapshot_holds (run_of tables entries) entry told ≡ option_map_or (λ number. is_snapshot entries number entry) (snapshot_in told) true
+snapshot-by tables entries entry (said.At number) =
+    let earlier : Bool = list_all (λ earlier. nat_le earlier number) (shown_in number_shown (before entries entry)) in
+    let later : Bool = list_all (λ later. nat_lt number later) (shown_in commit_in (after entries entry)) in
+    let least : nat_le 0 number ≡ true = grind (arith, nat_tests) in
+    ap (λ (n : ℕ). nat_le number n && nat_le 0 number && earlier && later) (all-numbered tables entries)
+    ∙ at-least-none (nat_le number (commit_count entries)) earlier later (nat_le 0 number) least
+snapshot-by tables entries entry _ = refl

@@ -4,18 +4,18 @@ use Rattle.std.specs.Prelude.{Result, IfOk}
 use Rattle.workload_spec.specs.declared.script.Script.{Script}
 use Rattle.outcome_spec.specs.Entries.{Entry}
 use Rattle.outcome_spec.specs.Explained.{failing_line, replies_of, unsound_line}
-use Rattle.outcome_spec.specs.Runs.{run_of}
+use Rattle.outcome_spec.specs.Runs.{run_from}
 
 -- The line at which an output fails, by what was read of it.
 abbrev answer-of : Script → Result (List Entry) ℕ → Option ℕ
-answer-of script told = elim told [ Ok entries ↦ unsound_line (run_of script.tables entries) | Err line ↦ Some line ]
+answer-of script told = elim told [ Ok entries ↦ unsound_line (run_from script.begun script.tables entries) | Err line ↦ Some line ]
 
 -- an output that is not read fails at the line at which reading does
 pub unread : (script : Script) (text : List ℕ) (line : ℕ) → replies_of script text ≡ Err line → failing_line script text ≡ Some line
 unread script text line h = ap (answer-of script) h
 
 -- an output that is read fails at the line of the first reply that is not sound
-pub read-fails : (script : Script) (text : List ℕ) (entries : List Entry) → replies_of script text ≡ Ok entries → failing_line script text ≡ unsound_line (run_of script.tables entries)
+pub read-fails : (script : Script) (text : List ℕ) (entries : List Entry) → replies_of script text ≡ Ok entries → failing_line script text ≡ unsound_line (run_from script.begun script.tables entries)
 read-fails script text entries h = ap (answer-of script) h
 
 -- what is said of the value of an answer is weakened

@@ -1,7 +1,6 @@
 //! Whether an output is explained.
-ghost use Rattle.std.specs.Prelude.{◌≡◌, true};
 ghost use Rattle.outcome_spec.specs.Explained.{failing_line};
-ghost use Rattle.workload_spec.specs.Valid.{is_valid};
+ghost use Rattle.workload_spec.specs.Valid.{IsWritten};
 ghost use Rattle.outcome_judge.specs.Verdicts.{Explains};
 
 use crate::fault::ExplainFault;
@@ -11,10 +10,10 @@ use output_read::read_output;
 use std::alloc::Global;
 use workload_spec::Script;
 
-/// Whether an output is explained by its script: its lines are those of the replies that are due,
-/// and each reply is what snapshot isolation and the counts of blocks allow.
+/// Whether an output is explained by its script as it is written: its lines are those of the replies
+/// that are due, and each reply is what snapshot isolation and the counts of blocks allow.
 pub fn explained(alloc: Global, script: &Script, text: &[u8]) -> Result<(), ExplainFault>
-    requires { is_valid script.now ≡ true }
+    requires { IsWritten script.now }
     ensures { Explains (failing_line script.now text.now) result }
 {
     replies_that_are_read_rise();

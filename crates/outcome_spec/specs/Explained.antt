@@ -7,7 +7,7 @@ use Rattle.workload_spec.specs.declared.script.Script.{Script}
 use Rattle.outcome_spec.specs.Lines.{lines_of}
 use Rattle.outcome_spec.specs.Entries.{Entry}
 use Rattle.outcome_spec.specs.Forms.{reading, dues_of}
-use Rattle.outcome_spec.specs.Runs.{Run, run_of}
+use Rattle.outcome_spec.specs.Runs.{Run, run_from}
 use Rattle.outcome_spec.specs.Numbers.{commit_numbers_hold, snapshot_numbers_hold}
 use Rattle.outcome_spec.specs.Answers.{reads_hold, writes_hold}
 use Rattle.outcome_spec.specs.Conflicts.{conflicts_hold}
@@ -25,7 +25,7 @@ has_forms script text = is_ok (replies_of script text)
 
 -- what a text with the forms shows
 abbrev pub run_in : Script → List ℕ → Run
-run_in script text = run_of script.tables (unwrap_or (result_ok (replies_of script text)) [])
+run_in script text = run_from script.begun script.tables (unwrap_or (result_ok (replies_of script text)) [])
 
 -- The reply is what snapshot isolation and the counts of blocks allow, given all that is printed.
 abbrev pub is_sound : Run → Entry → Bool
@@ -54,7 +54,7 @@ unsound_line run = option_map (λ entry. entry.number)
 -- that isn't sound; none where it is explained.
 abbrev pub failing_line : Script → List ℕ → Option ℕ
 failing_line script text = elim (replies_of script text)
-    [ Ok entries ↦ unsound_line (run_of script.tables entries) | Err line ↦ Some line ]
+    [ Ok entries ↦ unsound_line (run_from script.begun script.tables entries) | Err line ↦ Some line ]
 
 -- An output is explained exactly where it fails at no line.
 abbrev pub ExplainedWhereNoLineFails : Type 0

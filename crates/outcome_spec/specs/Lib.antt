@@ -16,3 +16,4 @@ pub mod Scripts
 pub mod Examples
 pub mod Refusals
 pub mod CheckedExamples
+pub mod BegunExamples

@@ -1,12 +1,12 @@
 -- Which commit numbers and which snapshots may be shown where.
-use Rattle.std.specs.Prelude.{ℕ, Bool, true, false, ◌&&◌, not, ◌==◌, nat_lt, nat_le, count_by}
+use Rattle.std.specs.Prelude.{ℕ, Bool, true, false, ◌&&◌, not, ◌==◌, nat_lt, nat_le, count_by, length}
 use Rattle.std.specs.Prelude.{Option, None, Some, is_some}
 use Rattle.std.specs.List.{list_all, list_any}
 use Rattle.std.specs.Option.{option_map_or}
 use Rattle.workload_spec.specs.declared.reply.Said.{Said}
 use Rattle.workload_spec.specs.declared.reply.Said.TheVariants as said
 use Rattle.outcome_spec.specs.Entries.{Entry, before, after, shown_in, commit_in}
-use Rattle.outcome_spec.specs.Runs.{Run, transaction_of, commits_as, commit_count, accepted_write}
+use Rattle.outcome_spec.specs.Runs.{Run, transaction_of, commits_as, accepted_write}
 
 -- the reply's transaction has an accepted write
 abbrev pub has_written : Run → Entry → Bool
@@ -14,11 +14,11 @@ has_written run entry = option_map_or
     (λ t. list_any (λ other. is_some (accepted_write other)) t.replies)
     (transaction_of run entry) false
 
--- `committed k`: k is 1 to the count of commit numbers shown, on no other line, and above each
--- commit number before.
+-- `committed k`: k is above the number of commits that the store began with, at most that of all
+-- commits, on no other line, and above each commit number before.
 abbrev pub is_commit_number : Run → Entry → ℕ → Bool
 is_commit_number run entry number =
-    nat_le 1 number && nat_le number (commit_count run.entries)
+    nat_lt (length run.first) number && nat_le number (length run.history)
     && count_by (commits_as number) run.entries == 1
     && list_all (λ earlier. nat_lt earlier number) (shown_in commit_in (before run.entries entry))
 
@@ -90,11 +90,11 @@ number_shown said.NotFrozen = None
 number_shown (said.Dirty key) = None
 number_shown said.Memory = None
 
--- `at n`: n is at most the count of commit numbers shown, at least each number shown before, and
--- below each commit number after.
+-- `at n`: n is at most the number of all commits, at least that of the commits that the store began
+-- with and each number shown before, and below each commit number after.
 abbrev pub snapshot_holds : Run → Entry → Said → Bool
 snapshot_holds run entry (said.At number) =
-    nat_le number (commit_count run.entries)
+    nat_le number (length run.history) && nat_le (length run.first) number
     && list_all (λ earlier. nat_le earlier number)
     (shown_in number_shown (before run.entries entry))
     && list_all (λ later. nat_lt number later) (shown_in commit_in (after run.entries entry))

@@ -1,5 +1,5 @@
 -- The transactions of an output, what they wrote, and what the printed commit numbers make of it.
-use Rattle.std.specs.Prelude.{ℕ, Bool, false, ◌==◌, List, [], ◌∷◌, map, length, filter_map, find}
+use Rattle.std.specs.Prelude.{ℕ, ◌+◌, Bool, false, ◌==◌, List, [], ◌∷◌, ◌++◌, map, length, filter_map, find}
 use Rattle.std.specs.Prelude.{fold, sum_by, if◌then◌else◌, Option, None, Some, option_map}
 use Rattle.std.specs.Prelude.{option_and_then}
 use Rattle.std.specs.List.{list_any, range_with_len, cons_option}
@@ -110,22 +110,28 @@ committed_writes entries transactions number =
     option_map_or (λ t. writes_in t.replies)
     (option_and_then (transaction_with transactions) (commit_line entries number)) []
 
--- What the replies tell: the transactions, and the history by the commit numbers 1 to the count of
--- those shown.
+-- What the replies tell: the transactions, and the history. It begins with the commits that the
+-- store began with; the numbers behind theirs are as many as commits show one.
 pub record Run : Type 0 where
+  pub first : History
   pub tables : List TableDecl
   pub entries : List Entry
   pub transactions : List Span
   pub history : History
 
-abbrev pub run_of : List TableDecl → List Entry → Run
-run_of tables entries = record {
+abbrev pub run_from : History → List TableDecl → List Entry → Run
+run_from first tables entries = record {
+  first = first;
   tables = tables;
   entries = entries;
   transactions = transactions_of entries;
-  history = map (committed_writes entries (transactions_of entries))
-      (range_with_len 1 (commit_count entries));
+  history = first ++ map (committed_writes entries (transactions_of entries))
+      (range_with_len (length first + 1) (commit_count entries));
 }
+
+-- that of a store that began with nothing
+abbrev pub run_of : List TableDecl → List Entry → Run
+run_of tables entries = run_from [] tables entries
 
 -- the transaction that a reply belongs to
 abbrev pub transaction_of : Run → Entry → Option Span

@@ -40,6 +40,7 @@ sessions table rounds = record {
   workers = 0;
   turns = 0;
   rounds = rounds;
+  begun = [];
 }
 
 abbrev pub with_worker : TableDecl → List (List Line) → Script
@@ -50,6 +51,7 @@ with_worker table rounds = record {
   workers = 1;
   turns = 1;
   rounds = rounds;
+  begun = [];
 }
 
 -- the row of a key and a text, and of a key alone

@@ -6,7 +6,7 @@ use Rattle.std.specs.List.{list_all, range_with_len}
 use Rattle.std.specs.Option.{option_map_or}
 use Rattle.std.specs.Ordering.{int_eq}
 use Rattle.cell_model.specs.declared.table.TableDecl.{TableDecl}
-use Rattle.isolation_spec.specs.Contents.{least_key, state_at, contents_of}
+use Rattle.isolation_spec.specs.Contents.{least_key, state_at, contents_of, rows_left}
 use Rattle.workload_spec.specs.declared.command.Command.{Command}
 use Rattle.workload_spec.specs.declared.command.Command.TheVariants as command
 use Rattle.workload_spec.specs.declared.reply.Said.{Said}
@@ -96,8 +96,8 @@ inserts_in table entries = count_by
 abbrev pub capacity_at : List TableDecl → ℕ → ℕ
 capacity_at tables table = blocks_at tables table * slots_at tables table
 
--- `full`: at least as many accepted inserts into the table as its blocks have slots are not after
--- this reply.
+-- `full`: the rows of the table that the store began with, and the accepted inserts into it that are
+-- not after this reply, are together at least as many as its blocks have slots.
 abbrev pub full_reply_holds : Run → Entry → Said → Bool
 full_reply_holds run entry (said.At number) = true
 full_reply_holds run entry (said.Stale read number) = true
@@ -114,7 +114,8 @@ full_reply_holds run entry said.Exists = true
 full_reply_holds run entry said.Missing = true
 full_reply_holds run entry said.Full =
     option_map_or (λ table. nat_le (capacity_at run.tables table)
-    (inserts_in table (not_after run.entries entry))) (inserted_table entry.command) true
+    (length (rows_left run.first table) + inserts_in table (not_after run.entries entry)))
+    (inserted_table entry.command) true
 full_reply_holds run entry (said.Freezing table block stamp) = true
 full_reply_holds run entry (said.Committed number) = true
 full_reply_holds run entry said.Aborted = true

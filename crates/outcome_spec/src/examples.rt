@@ -1,6 +1,9 @@
 //! Worked examples of outputs, explained and not: each is a fact that the definitions compute.
 #![tactic(auto, unfolding(crate::specs::Opened::digits, crate::specs::Opened::is_utf8, crate::specs::Opened::chars, crate::specs::Opened::encode))]
 
+ghost use Rattle.outcome_spec.specs.BegunExamples.{third_commit, snapshot_before_the_first};
+ghost use Rattle.outcome_spec.specs.BegunExamples.{number_of_the_first, full_with_the_first};
+ghost use Rattle.outcome_spec.specs.BegunExamples.{conflict_behind_the_first, number_above_all};
 ghost use Rattle.outcome_spec.specs.CheckedExamples.{write_skew, plain_skew, stale_passed_over};
 ghost use Rattle.outcome_spec.specs.CheckedExamples.{stale_in_plain, stale_unread};
 ghost use Rattle.outcome_spec.specs.CheckedExamples.{stale_in_snapshot, stale_forms, last_is_named};
@@ -270,4 +273,30 @@ pub fn ranges_and_totals_are_judged()
 /// What a session's open transaction has read is told by its replies.
 pub fn what_was_read_is_told_by_replies()
     ensures { reads_are_kept }
+{}
+
+/// A store that begins with two commits shows them, and its next commit is the third.
+pub fn the_commit_behind_two_is_the_third()
+    ensures { third_commit }
+{}
+
+/// A snapshot is not older than the commits that the store begins with, nor newer than all.
+pub fn a_snapshot_sees_what_the_store_begins_with()
+    ensures { snapshot_before_the_first }
+{}
+
+/// A commit has no number of those that the store begins with, and none above all.
+pub fn a_commit_has_no_number_of_the_first()
+    ensures first { number_of_the_first }
+    ensures all { number_above_all }
+{}
+
+/// A conflict behind what the store begins with.
+pub fn a_conflict_names_a_commit_behind_the_first()
+    ensures { conflict_behind_the_first }
+{}
+
+/// The rows that the store begins with count where a table is full.
+pub fn a_table_is_full_with_what_the_store_begins_with()
+    ensures { full_with_the_first }
 {}

@@ -1,5 +1,5 @@
 -- How a check ends, and that what is checked has a workload.
-use Rattle.std.proofs.Common.{◌≡◌, ◌<◌, ◌^◌, ℕ, suc, zero, Bool, true, false, List, [], ◌∷◌, ◌++◌, Option, None, Some, Err, length, refl, sym, ap, ◌∙◌, inl, inr, arith}
+use Rattle.std.proofs.Common.{◌≡◌, ◌<◌, ◌^◌, ℕ, suc, zero, Bool, true, false, List, [], ◌∷◌, ◌++◌, Option, None, Some, Err, length, refl, sym, ap, subst, ◌∙◌, inl, inr, arith}
 use Rattle.std.specs.Prelude.{◌==◌, IfOk, Ok, Result, take}
 use Rattle.std.specs.Io.KnownBytes.{Appends, Consumes, IsAtEnd}
 use Rattle.std.proofs.lemmas.Bool.Decides.{nat_tests}
@@ -11,7 +11,7 @@ use Rattle.workload_laws.proofs.Results.{step}
 use Rattle.workload_spec.specs.declared.script.Script.{Script}
 use Rattle.workload_spec.specs.Grammar.{checked_in, checked_of, place_of_parting, script_in}
 use Rattle.workload_spec.specs.Reading.{onto_first, parted, parts}
-use Rattle.workload_spec.specs.Valid.{is_valid}
+use Rattle.workload_spec.specs.Valid.{IsWritten}
 use Rattle.workload_spec.specs.Words.{line_feed}
 use Rattle.script_text.specs.Answers.{LineFails, LineGives}
 use Rattle.script_text.specs.declared.fault.ScriptFault.{ScriptFault}
@@ -55,22 +55,22 @@ front_of separator [] (suc place) = record {
 front_of separator (byte ∷ bytes) (suc place) =
     put_front separator byte (byte == separator) (parts separator bytes) place refl (parts_some separator bytes) (front_of separator bytes)
 
--- what is checked has a workload in front
-checked_valid : (bytes : List ℕ) (found : Script × List ℕ) → checked_of bytes ≡ Ok found → is_valid found.0 ≡ true
-checked_valid bytes found is = go (place_of_parting (parts line_feed bytes)) is
+-- what is checked has a workload in front, as it is written
+checked_written : (bytes : List ℕ) (found : Script × List ℕ) → checked_of bytes ≡ Ok found → IsWritten found.0
+checked_written bytes found is = go (place_of_parting (parts line_feed bytes)) is
   where
-    go : (place : Option ℕ) → checked_in (parts line_feed bytes) place ≡ Ok found → is_valid found.0 ≡ true
+    go : (place : Option ℕ) → checked_in (parts line_feed bytes) place ≡ Ok found → IsWritten found.0
     go None e = step (script_in (parts line_feed bytes)) _ found e (λ script read never. absurd cc)
     go (Some place) e =
         let front = front_of line_feed bytes place in
         step (script_in (take place (parts line_feed bytes) ++ [] ∷ [])) _ found e (λ script read told.
         let same : script ≡ found.0 = cc in
-        ap is_valid (sym same) ∙ (read_is_text front.bytes script (ap script_in front.are ∙ read)).1)
+        subst IsWritten same (read_is_text front.bytes script (ap script_in front.are ∙ read)).1)
 
--- what is checked, where it is read, has a workload that is valid
-pub valid_checked : {X : Type 0} (view : X → Script × List ℕ) (bytes : List ℕ) (read : Result X ScriptFault) → LineGives view read (checked_of bytes) → IfOk read (λ x. is_valid (view x).0 ≡ true)
-valid_checked view bytes (Ok found) gives = checked_valid bytes (view found) gives
-valid_checked view bytes (Err bad) gives = tt
+-- so it has where it is read
+pub written_checked : {X : Type 0} (view : X → Script × List ℕ) (bytes : List ℕ) (read : Result X ScriptFault) → LineGives view read (checked_of bytes) → IfOk read (λ x. IsWritten (view x).0)
+written_checked view bytes (Ok found) gives = checked_written bytes (view found) gives
+written_checked view bytes (Err bad) gives = tt
 
 -- a fault that is told is the first of the bytes, which are refused
 told_first : (Prints : Option (List ℕ) → Option (List ℕ) → List ℕ → Type 0) (bad : ScriptFault) (bytes : List ℕ) (left_old left_new printed_old printed_new exported : Option (List ℕ)) (started : Option (List (List ℕ)))

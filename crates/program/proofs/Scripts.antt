@@ -1,5 +1,5 @@
 -- How the input of a run is read.
-use Rattle.std.proofs.Common.{◌≡◌, ℕ, true, ◌^◌, ◌<◌, Option, List, length, refl, Err, inl, inr}
+use Rattle.std.proofs.Common.{◌≡◌, ℕ, ◌^◌, ◌<◌, Option, List, length, refl, Err, inl, inr}
 use Rattle.std.specs.Prelude.{IfOk, Ok, Result}
 use Rattle.std.specs.Io.KnownBytes.{Appends, Consumes, IsAtEnd}
 use Rattle.byte_ports.specs.Calls.{AppendsFront}
@@ -10,7 +10,7 @@ use Rattle.workload_laws.proofs.OneGrammar.{read_is_text}
 use Rattle.workload_spec.specs.declared.script.Script.{Script}
 use Rattle.workload_spec.specs.Grammar.{script_of}
 use Rattle.workload_spec.specs.ScriptText.{script_text}
-use Rattle.workload_spec.specs.Valid.{is_valid}
+use Rattle.workload_spec.specs.Valid.{IsWritten}
 use Rattle.program.specs.Outcome.{IsRefused, IsWorkload, Outside, Reads, RunEnds, ScriptEnds, outside}
 use Rattle.program.specs.Played.{RefusalEnds, TellsFault}
 use Rattle.program.specs.declared.status.Status.{Status}
@@ -22,14 +22,14 @@ use Rattle.program.specs.declared.status.Status.TheVariants as status
 pub text_is : (bytes : List ℕ) (script : Script) → IsWorkload bytes script → script_text script ≡ bytes
 text_is bytes script read = (read_is_text bytes script read).0
 
--- what bytes are read as is a workload
-pub read_valid : (bytes : List ℕ) (script : Script) → IsWorkload bytes script → is_valid script ≡ true
-read_valid bytes script read = (read_is_text bytes script read).1
+-- what bytes are read as is a workload as it is written
+pub read_written : (bytes : List ℕ) (script : Script) → IsWorkload bytes script → IsWritten script
+read_written bytes script read = (read_is_text bytes script read).1
 
 -- so is what was read of them
-pub valid_read : (bytes : List ℕ) (read : Result Script ScriptFault) → LineGives (λ script. script) read (script_of bytes) → IfOk read (λ script. is_valid script ≡ true)
-valid_read bytes (Ok script) gives = read_valid bytes script gives
-valid_read bytes (Err bad) gives = tt
+pub written_read : (bytes : List ℕ) (read : Result Script ScriptFault) → LineGives (λ script. script) read (script_of bytes) → IfOk read IsWritten
+written_read bytes (Ok script) gives = read_written bytes script gives
+written_read bytes (Err bad) gives = tt
 
 -- a fault that is told is a bad line, the first of the bytes, which are refused
 told_fault : (Prints : Option (List ℕ) → Option (List ℕ) → List ℕ → Type 0) (bad : ScriptFault) (bytes : List ℕ) (left_old left_new printed_old printed_new exported : Option (List ℕ)) (started : Option (List (List ℕ)))

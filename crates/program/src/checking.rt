@@ -2,7 +2,7 @@
 //! prints whether snapshot isolation explains the output.
 ghost use Rattle.std.specs.Prelude.{◌≡◌, ◌≢◌, ◌++◌, ℕ, List, Option, None, Some, IfOk, OnOk};
 ghost use Rattle.std.specs.Prelude.{option_map, true};
-ghost use Rattle.workload_spec.specs.Valid.{is_valid};
+ghost use Rattle.workload_spec.specs.Valid.{IsWritten};
 ghost use Rattle.workload_spec.specs.Grammar.{checked_of};
 ghost use Rattle.script_text.specs.Answers.{LineGives};
 ghost use Rattle.program.specs.Outcome.{CheckEnds, TellsFaults, outside, verdict_text};
@@ -43,7 +43,7 @@ pub(crate) fn check<S: Source, O: Sink>(alloc: Global, source: &mut S, out: &mut
 /// The workload and the output behind it that the bytes are.
 fn parse_whole(alloc: Global, bytes: &[u8]) -> Result<(Script, &[u8]), ScriptFault>
     ensures read { LineGives (λ x. (x.0, x.1.now)) result (checked_of bytes.now) }
-    ensures valid { IfOk result (λ x. is_valid x.0 ≡ true) }
+    ensures written { IfOk result (λ x. IsWritten x.0) }
 {
     parse_checked(alloc, bytes)
 }
@@ -52,7 +52,7 @@ fn parse_whole(alloc: Global, bytes: &[u8]) -> Result<(Script, &[u8]), ScriptFau
 /// workload.
 fn parse_apart(alloc: Global, bytes: Vec<u8>) -> Result<(Script, Vec<u8>), ScriptFault>
     ensures read { LineGives (λ x. (x.0, x.1.items)) result (checked_of bytes.items) }
-    ensures valid { IfOk result (λ x. is_valid x.0 ≡ true) }
+    ensures written { IfOk result (λ x. IsWritten x.0) }
 {
     match parse_whole(alloc, bytes.as_slice()) {
         Ok((script, output)) => {
@@ -65,7 +65,7 @@ fn parse_apart(alloc: Global, bytes: Vec<u8>) -> Result<(Script, Vec<u8>), Scrip
 
 /// Prints whether the output is explained.
 fn tell_verdict<O: Sink>(alloc: Global, script: &Script, output: &[u8], out: &mut O) -> Status
-    requires { is_valid script.now ≡ true }
+    requires { IsWritten script.now }
     ensures ends { VerdictEnds script.now output.now result (O.written out.old)
         (O.written out.new) }
     ensures out_faults { TellsFaults Status.OutFault result (O.faults out.old) (O.faults out.new) }

@@ -4,7 +4,7 @@ ghost use Rattle.std.specs.Prelude.{true, string_bytes, option_map, IfOk, OnOk, 
 ghost use Rattle.std.specs.Prelude.{if◌then◌else◌};
 ghost use Rattle.std.specs.List.{list_any};
 ghost use Rattle.byte_ports.specs.Calls.{Rose};
-ghost use Rattle.workload_spec.specs.Valid.{is_valid, is_export};
+ghost use Rattle.workload_spec.specs.Valid.{IsWritten, is_export};
 ghost use Rattle.workload_spec.specs.Grammar.{script_of};
 ghost use Rattle.script_text.specs.Answers.{LineGives};
 ghost use Rattle.export_spec.specs.Sent.{has_export};
@@ -176,7 +176,7 @@ fn run<R: Wait + Threads + Sync, S: Source, O: Sink, X: Outlet, G: Gate + Sync>(
 /// The workload that the bytes are.
 fn parse_script(alloc: Global, bytes: &[u8]) -> Result<Script, ScriptFault>
     ensures read { LineGives (λ script. script) result (script_of bytes.now) }
-    ensures valid { IfOk result (λ script. is_valid script ≡ true) }
+    ensures written { IfOk result IsWritten }
 {
     parse(alloc, bytes)
 }
@@ -211,7 +211,7 @@ fn run_script<R: Wait + Threads + Sync, O: Sink, X: Outlet, G: Gate + Sync>(
     export: &mut X,
     gate: &G,
 ) -> Status
-    requires valid { is_valid script ≡ true }
+    requires written { IsWritten script }
     requires short { length (script_text script) < 2 ^ 32 }
     ensures ends { (left_old left_new : Option (List ℕ))
         → ScriptEnds (option_map (λ p. p.now) path.entry) script result
@@ -239,7 +239,7 @@ fn play<R: Wait + Threads + Sync, O: Sink, X: Outlet, G: Gate + Sync>(
     export: &mut X,
     gate: &G,
 ) -> Status
-    requires valid { is_valid script ≡ true }
+    requires written { IsWritten script }
     requires short { length (script_text script) < 2 ^ 32 }
     ensures ends { PlayEnds (WentBy script (X.written export.old) (X.written export.new))
         script result (O.written out.old) (O.written out.new) }

@@ -295,6 +295,11 @@ CompactionsMoveAllPairs =
 abbrev pub one_worker : Script
 one_worker = with_worker (texts 2) []
 
+-- A script's core has its tables, a pass for each session and worker, and begins as the script says.
+abbrev pub CoresAreOfScripts : Type 0
+CoresAreOfScripts = shape_of (record one_worker { begun = [] ∷ [] })
+    ≡ record { tables = texts 2 ∷ []; passes = 2; first = [] ∷ [] }
+
 -- the core with a sealed block
 abbrev pub sealed_core : Parts
 sealed_core = each_changed

@@ -1,10 +1,11 @@
 -- A script, a log of events and a text belong together: the script ran, the log is what it did, but
 -- for the blocks that were lent, and the text is what it printed.
-use Rattle.std.specs.Prelude.{◌≡◌, ⊤, ℕ, ◌+◌, ◌≤◌, List, [], ◌∷◌, ◌++◌, map, filter, Option, None}
+use Rattle.std.specs.Prelude.{◌≡◌, ⊤, ℕ, ◌+◌, ◌≤◌, List, [], ◌∷◌, ◌++◌, map, filter, Option, None, true}
 use Rattle.std.specs.Prelude.{All}
 use Rattle.std.specs.List.{flat_map, range_with_len}
 use Rattle.event_spec.specs.Parts.{Shape}
 use Rattle.event_spec.specs.Replay.{IsLawfulLog, opening}
+use Rattle.event_spec.specs.Sound.{IsShape}
 use Rattle.outcome_spec.specs.Entries.{is_same}
 use Rattle.outcome_spec.specs.Forms.{commands_of, turn_of, is_worker}
 use Rattle.timeline_spec.specs.Printed.{text_of}
@@ -14,13 +15,25 @@ use Rattle.workload_spec.specs.declared.reply.Who.{Who}
 use Rattle.workload_spec.specs.declared.reply.Who.TheVariants.{Session, Worker}
 use Rattle.workload_spec.specs.declared.script.Line.{Line}
 use Rattle.workload_spec.specs.declared.script.Script.{Script}
+use Rattle.workload_spec.specs.Valid.{is_valid}
 use Rattle.run_spec.specs.Calls.{Call, AreCalls, Kept}
 use Rattle.run_spec.specs.Occurrences.{Logged, Occurrence, occurrences_in, under}
 use Rattle.run_spec.specs.Traces.{Action, LendsFit, as_log, log_in}
 
--- The core of a script has its tables, and a pass for each session and each worker.
+-- The core of a script has its tables, a pass for each session and each worker, and begins with the
+-- script's commits.
 abbrev pub shape_of : Script → Shape
-shape_of script = record { tables = script.tables; passes = script.sessions + script.workers }
+shape_of script = record {
+  tables = script.tables;
+  passes = script.sessions + script.workers;
+  first = script.begun;
+}
+
+-- A script that a store can run: it is a valid workload, and its core can be made, which asks of the
+-- commits that it begins with to be of its tables, and to leave no table more rows than it takes.
+pub record IsRunnable (script : Script) : Type 0 where
+  pub valid : is_valid script ≡ true
+  pub shape : IsShape (shape_of script)
 
 -- The session under which one's events stand in the log: the workers' come behind the sessions'.
 abbrev pub session_of : Script → Who → ℕ

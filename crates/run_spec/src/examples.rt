@@ -6,7 +6,8 @@ ghost use Rattle.run_spec.specs.CheckedExamples.{TablesAreReadWhole};
 ghost use Rattle.run_spec.specs.Examples.{GetsTellTheRow, WritesAreTheTransactions};
 ghost use Rattle.run_spec.specs.Examples.{ChangesThawFirst, OthersDoNot, ScansReadEachBlock};
 ghost use Rattle.run_spec.specs.Examples.{ExportsCountImages, PrunesGoBlockByBlock, RangesAreOneEvent};
-ghost use Rattle.run_spec.specs.Examples.{CompactionsMoveAllPairs, WorkersTakeTurns};
+ghost use Rattle.run_spec.specs.Examples.{CompactionsMoveAllPairs, CoresAreOfScripts};
+ghost use Rattle.run_spec.specs.Examples.{WorkersTakeTurns};
 
 /// A get is one event, and its line is the row or that there is none.
 pub fn gets_tell_the_row()
@@ -79,4 +80,9 @@ pub fn a_session_exports_beside_a_worker()
 /// log has no entry of them.
 pub fn lends_stand_for_reads()
     ensures { LendsStandForReads }
+{}
+
+/// The core of a script.
+pub fn cores_are_of_scripts()
+    ensures { CoresAreOfScripts }
 {}

@@ -61,6 +61,7 @@ behind_read version extent all = do
     workers = workers.0.0;
     turns = workers.0.1;
     rounds = rounds;
+    begun = [];
   })
 
 -- the workload, its version and what stands behind

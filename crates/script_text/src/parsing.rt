@@ -15,7 +15,7 @@ use crate::rounds::rounds_of;
 use crate::table::{is_table_line, table_of};
 use std::alloc::Global;
 use word_read::split_line;
-use workload_spec::{Cause, Extent, Rounds, Script};
+use workload_spec::{Cause, Extent, History, Rounds, Script};
 
 /// The workload that the bytes are, or the first line that is none of one, counted from 1, with the
 /// cause of the first word or rule on it that fails.
@@ -79,6 +79,7 @@ fn parse_behind(
         workers,
         turns,
         rounds: Rounds::from(rounds),
+        begun: History::new(alloc),
     })
 }
 

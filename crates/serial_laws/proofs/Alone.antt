@@ -26,6 +26,7 @@ use Rattle.outcome_spec.specs.Stale.{is_checked, reads_last}
 use Rattle.outcome_spec.specs.Upkeep.{freezing_holds, full_holds, exports_hold, upkeep_holds}
 use Rattle.order_laws.proofs.Pieces.{count-cons}
 use Rattle.order_laws.specs.Places.{Rises}
+use Rattle.serial_laws.proofs.Bare.{bare}
 use Rattle.serial_laws.specs.Serial.{Among, IsServed, seen_from}
 use Rattle.serial_laws.specs.Alone.{Runs, alone, alone_steps, commit_number, end_alone, number_of, served_steps, step_of}
 use Rattle.serial_laws.proofs.Members.{all-among, among-behind, own-session, printed}
@@ -114,17 +115,12 @@ not-so : (b : Bool) → not b ≡ true → b ≡ false
 not-so true h = absurd (true_false (sym h))
 not-so false h = refl
 
--- of three parts that hold the first does
-first-of : (a b c : Bool) → (a && b && c) ≡ true → a ≡ true
-first-of true b c all = refl
-first-of false b c all = absurd (true_false (sym all))
-
 -- A snapshot that is shown is one of the commits.
-in-count : (run : Run) (entry : Entry) (told : Said) (n : ℕ) → snapshot_in told ≡ Some n → snapshot_holds run entry told ≡ true → n ≤ commit_count run.entries
+in-count : (run : Run) (entry : Entry) (told : Said) (n : ℕ) → snapshot_in told ≡ Some n → snapshot_holds run entry told ≡ true → n ≤ length run.history
 in-count run entry (said.At number) n opens holds =
     let same : number ≡ n = same_Some number n opens in
-    let low = first-of (nat_le number (commit_count run.entries)) (list_all (λ earlier. nat_le earlier number) (shown_in number_shown (before run.entries entry)))
-    (list_all (λ later. nat_lt number later) (shown_in commit_in (after run.entries entry))) holds in
+    let low = (three (nat_le number (length run.history)) (nat_le (length run.first) number) (list_all (λ earlier. nat_le earlier number) (shown_in number_shown (before run.entries entry)))
+    (list_all (λ later. nat_lt number later) (shown_in commit_in (after run.entries entry))) holds).0 in
     grind (arith, nat_tests, same, low)
 in-count run entry _ n opens holds = absurd (none_some n opens)
 
@@ -142,10 +138,10 @@ ending-shown t number is = by (ending_of t) refl is
     by (Some ending) e h = (ending, e, commit-shown ending.reply.said number h)
     by None e h = absurd (none_some number h)
 
-module _ (script : Script) (text : List ℕ) (explained : Explained script text) where
+module _ (script : Script) (text : List ℕ) (explained : Explained (bare script) text) where
   -- what the output shows
   abbrev pub run : Run
-  run = run_in script text
+  run = run_in (bare script) text
 
   -- Its history has its numbers.
   pub many : length run.history ≡ commit_count run.entries
@@ -166,7 +162,7 @@ module _ (script : Script) (text : List ℕ) (explained : Explained script text)
     order = rises-own run.entries t (its script text explained t among) (rises script text explained t among)
 
     -- Its snapshot is one of the commits.
-    snapshot-low : t.snapshot ≤ commit_count run.entries
+    snapshot-low : t.snapshot ≤ length run.history
     snapshot-low =
         let o = its script text explained t among in
         let in' : Among o.opening run.entries = subst (Among o.opening) (sym o.whole) (among-behind o.opening o.ahead (o.opening ∷ o.behind) (inl refl)) in
@@ -216,7 +212,7 @@ module _ (script : Script) (text : List ℕ) (explained : Explained script text)
     reads-alone none =
         let low = snapshot-low in
         runs-alone run t t.snapshot (number_of t.who) (its script text explained t among).opening.reply.who order own served-there
-        (length-taken t.snapshot run.history (omega (arith, low, many)))
+        (length-taken t.snapshot run.history (omega (arith, low)))
         (step_of (number_of t.who) (option_map_or (λ (ending : Entry). end_alone ending.reply.said) (ending_of t) (act.Abort, answer.Aborted))) (alone run.history t.snapshot)
         (ends-quiet (ending_of t) refl none)
 
@@ -232,8 +228,8 @@ module _ (script : Script) (text : List ℕ) (explained : Explained script text)
       numbered = and_parts (has_written run ending) (is_commit_number run ending number) (commit-sound ending last-in (said.Committed (Some number)) told)
 
       -- It is one of the numbers, on one line alone.
-      number-facts : (nat_le 1 number ≡ true) × (nat_le number (commit_count run.entries) ≡ true) × ((count_by (commits_as number) run.entries == 1) ≡ true)
-      number-facts = three (nat_le 1 number) (nat_le number (commit_count run.entries)) (count_by (commits_as number) run.entries == 1)
+      number-facts : (nat_le 1 number ≡ true) × (nat_le number (length run.history) ≡ true) × ((count_by (commits_as number) run.entries == 1) ≡ true)
+      number-facts = three (nat_le 1 number) (nat_le number (length run.history)) (count_by (commits_as number) run.entries == 1)
           (list_all (λ earlier. nat_lt earlier number) (shown_in commit_in (before run.entries ending))) numbered.1
 
       -- It is above none.
@@ -242,7 +238,7 @@ module _ (script : Script) (text : List ℕ) (explained : Explained script text)
 
       -- It is one of them.
       pub below : number ≤ commit_count run.entries
-      below = let h = number-facts.1 in grind (arith, nat_tests, h)
+      below = let h = number-facts.1 in let all = many in grind (arith, nat_tests, h, all)
 
       -- Its line is the ending.
       pub line : commit_line run.entries number ≡ Some ending

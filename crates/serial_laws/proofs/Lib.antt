@@ -1,3 +1,4 @@
+pub mod Bare
 pub mod Meets
 pub mod Steps
 pub mod Serial

@@ -120,7 +120,7 @@ commit_number t = option_and_then (λ ending. commit_in ending.reply.said) (endi
 -- the one with it.
 abbrev pub ChecksRunAlone : Type 0
 ChecksRunAlone = (script : Script) (text : List ℕ) (t : Span) (number : ℕ)
-    → Explained script text → Among t (run_in script text).transactions → is_checked t ≡ true
+    → script.begun ≡ [] → Explained script text → Among t (run_in script text).transactions → is_checked t ≡ true
     → commit_number t ≡ Some number
     → Runs (alone (run_in script text).history (number - 1)) (alone_steps t (number - 1))
     (alone (run_in script text).history number)
@@ -128,7 +128,7 @@ ChecksRunAlone = (script : Script) (text : List ℕ) (t : Span) (number : ℕ)
 -- A transaction that left nothing, checked or not, runs alone behind the commits that it saw.
 abbrev pub ReadersRunAlone : Type 0
 ReadersRunAlone = (script : Script) (text : List ℕ) (t : Span)
-    → Explained script text → Among t (run_in script text).transactions
+    → script.begun ≡ [] → Explained script text → Among t (run_in script text).transactions
     → commit_number t ≡ None
     → Runs (alone (run_in script text).history t.snapshot) (alone_steps t t.snapshot)
     (alone (run_in script text).history t.snapshot)
@@ -153,7 +153,7 @@ serial_steps run = reader_steps run 0
 -- Where each transaction that wrote is checked, an explained output's transactions are one run of
 -- the machine, one behind the other, from no commit to all of them.
 abbrev pub SerialRun : Type 0
-SerialRun = (script : Script) (text : List ℕ) → Explained script text
+SerialRun = (script : Script) (text : List ℕ) → script.begun ≡ [] → Explained script text
     → ((t : Span) (number : ℕ) → Among t (run_in script text).transactions
     → commit_number t ≡ Some number → is_checked t ≡ true)
     → Runs machine.opening (serial_steps (run_in script text))

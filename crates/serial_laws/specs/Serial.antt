@@ -40,11 +40,11 @@ pub record IsServed (run : Run) (t : Span) (number : ℕ) (entry : Entry) : Type
   pub write : entry.reply.said ≡ said.Accepted
       → is_acceptable (seen_from run t number entry) entry.command ≡ true
 
--- In an explained output a checked transaction that committed with a number is told what it would
+-- Over a store that began with nothing: in an explained output a checked transaction that committed with a number is told what it would
 -- have been told, had it begun right behind the commit before: each read, and each accepted write.
 abbrev pub ChecksAreSerial : Type 0
 ChecksAreSerial = (script : Script) (text : List ℕ) (t : Span) (number : ℕ)
-    → Explained script text → Among t (run_in script text).transactions → is_checked t ≡ true
+    → script.begun ≡ [] → Explained script text → Among t (run_in script text).transactions → is_checked t ≡ true
     → (ending : Entry) → ending_of t ≡ Some ending
     → ending.reply.said ≡ said.Committed (Some number)
     → (entry : Entry) → Among entry t.replies

@@ -287,7 +287,7 @@ row_parted store sessions workers row front back is front_is back_is = (
 -- ---- a store that was just built
 
 module _ (hall : StoreView) (core : CoreState) (tables : List TableDecl) (sessions : ℕ)
-    (shape_is : core.shape ≡ record { tables = tables; passes = sessions })
+    (shape_is : core.shape ≡ record { tables = tables; passes = sessions; first = [] })
     (opening_is : IsOpening core.shape core.parts)
     (of : (hall.core ≡ core) × (hall.passes ≡ sessions) × (hall.shape ≡ core.shape))
   where

@@ -37,7 +37,7 @@ by_hall F inside now is same holds = subst (λ M. F M inside) (sym (is_meaning i
 
 -- a log that goes on in the hall goes on as a run's
 seen_on : (v : View CoreEvent) (log : List (Entry CoreEvent)) → SeenOn v log → GoesOn (log_of v.log) (log_of log)
-seen_on v log goes = (log_of (since v log), ap log_of goes ∙ log_append (record { tables = []; passes = 0 }) v.log (since v log))
+seen_on v log goes = (log_of (since v log), ap log_of goes ∙ log_append (record { tables = []; passes = 0; first = [] }) v.log (since v log))
 
 -- a pass without a hand holds no part
 no_hand_no_part : (hands : HandsView) → length hands ≡ 0 → (k : ℕ) → ¬ Holds (first_of hands) k

@@ -1,6 +1,7 @@
 //! Building a store.
 ghost use Rattle.std.specs.Prelude.{◌≡◌, ◌+◌, ◌-◌, ◌≤◌, ◌++◌, IfOk, None, []};
 ghost use Rattle.engine_core.specs.Core.{MayOpen};
+ghost use Rattle.event_spec.specs.Sound.{IsShape};
 ghost use Rattle.shared_store.specs.Building.{HasSessions, IsNewRow, IsNewSession};
 ghost use Rattle.shared_store.specs.Store.{shape_in};
 
@@ -97,7 +98,12 @@ impl Store {
         requires size { MayOpen tables.items (sessions + workers) }
         requires some { 1 ≤ sessions + workers }
         ensures shape { IfOk result (λ built.
-            shape_in built.store ≡ record { tables = tables.items; passes = sessions + workers }) }
+            shape_in built.store ≡ record {
+              tables = tables.items;
+              passes = sessions + workers;
+              first = [];
+            }) }
+        ensures measures { IfOk result (λ built. IsShape (shape_in built.store)) }
         ensures sessions { IfOk result (λ built.
             IsNewRow built.store sessions built.sessions.items) }
         ensures row { IfOk result (λ built. IsNewRow built.store (sessions + workers)

@@ -46,13 +46,13 @@ module _ (sh : Shape) where
 
   -- behind a whole log, with the parts that it leaves
   pub follows_whole : (log : List Logged) → IsShape sh → IsLawfulLog sh (made_in log) → Sound sh (parts_after sh log) × FollowsMachine sh (parts_after sh log) (machine_after sh log)
-  follows_whole log shape lawful = follows_from log (opening sh) machine.opening shape (sound sh shape) (opening_follows sh shape) lawful
+  follows_whole log shape lawful = follows_from log (opening sh) (machine.opening_from sh.first) shape (sound sh shape) (opening_follows sh shape) lawful
 
   -- the machine behind a log that goes on
   pub machine_on : (log more : List Logged) → machine_after sh (log ++ more) ≡ fold moved_on (machine_after sh log) (occurrences_from sh (parts_after sh log) more)
   machine_on log more =
-      ap (fold moved_on machine.opening) (occurrences_append sh (opening sh) log more)
-      ∙ fold-append moved_on machine.opening (occurrences_in sh log) (occurrences_from sh (parts_after sh log) more)
+      ap (fold moved_on (machine.opening_from sh.first)) (occurrences_append sh (opening sh) log more)
+      ∙ fold-append moved_on (machine.opening_from sh.first) (occurrences_in sh log) (occurrences_from sh (parts_after sh log) more)
 
   -- ---- commits
 

@@ -18,7 +18,6 @@ use Rattle.cell_model.specs.declared.table.TableDecl.{TableDecl}
 use Rattle.core_laws.proofs.Events.Apart.{kept_among}
 use Rattle.core_laws.proofs.Events.Heads.{block_is, filter_first}
 use Rattle.core_laws.proofs.Events.Moved.{halves, left_half}
-use Rattle.core_laws.proofs.Events.Naming.{body_named, head_named}
 use Rattle.core_laws.proofs.Events.Owners.{key_slot}
 use Rattle.event_spec.specs.declared.event.Event.TheVariants as event
 use Rattle.event_spec.specs.declared.event.MovePair.{MovePair}
@@ -29,19 +28,19 @@ use Rattle.event_spec.specs.declared.reply.WriteFault.TheVariants.{Exists, Full}
 use Rattle.event_spec.specs.Effects.{CoreEvent, after_change, after_insert, after_move, at_both, change_judged, changes_of, effect, found, has_key, held_pairs, holds, insert_judged, is_some_write, may_move, moved_on, moved_row, taken_by, with_empty, after_judged, stale_in}
 use Rattle.event_spec.specs.Judged.{differences, fault_of, first_of_blocks, newer_by, next_place}
 use Rattle.event_spec.specs.Lawful.{Among, HasBlock, HasTable, IsLawful, IsThawed}
-use Rattle.event_spec.specs.Parts.{Changes, HeadOf, BodyOf, Parts, Shape, below, blocks_of, body_at, body_from, desk_at, head_at, head_from, is_head, names, nothing, places_at, slot_at, slots_of}
-use Rattle.event_spec.specs.Replay.{opening, opening_head, opening_part}
+use Rattle.event_spec.specs.Parts.{Changes, Parts, Shape, below, blocks_of, body_at, desk_at, head_at, is_head, names, nothing, places_at, slot_at, slots_of}
+use Rattle.event_spec.specs.Replay.{opening, rows_first}
 use Rattle.event_spec.specs.Replies.{reply_to, reply_to_write}
 use Rattle.event_spec.specs.Sound.{IsShape, Sound}
 use Rattle.isolation_spec.specs.Contents.{key_of}
-use Rattle.core_laws.proofs.Logs.Opening.{part_there}
+use Rattle.core_laws.proofs.Logs.Opening.{body, head, no_rows}
 use Rattle.core_laws.proofs.Slots.Kept.{writer_filled}
 use Rattle.core_laws.proofs.Sound.Bodies.{not_empty, row_fills, true_false}
 use Rattle.core_laws.proofs.Sound.Keeps.{shaped}
 use Rattle.core_laws.proofs.Sound.Kept.{body_after, head_after}
 use Rattle.core_laws.proofs.Sound.Written.{change_goes, judged_ok}
 use Rattle.undo_chain.specs.declared.undo.Undo.{Undo}
-use Rattle.store_laws.specs.Room.{CountsRoom, FullIsFull, OpensEmpty, RoomIsCounted, inserted_by, used, used_in, writes_told}
+use Rattle.store_laws.specs.Room.{CountsRoom, FullIsFull, OpensWithRows, RoomIsCounted, inserted_by, used, used_in, writes_told}
 use Rattle.event_spec.specs.declared.own.OwnTransaction.{OwnTransaction}
 use Rattle.isolation_spec.specs.declared.read.Read.{Read}
 
@@ -603,12 +602,15 @@ all_bare : (n : ℕ) → list_all is_bare (replicate n bare) ≡ true
 all_bare zero = refl
 all_bare (suc n) = all_bare n
 
--- in the opening core no slot is in use
-pub opens_empty : OpensEmpty
-opens_empty sh t shape has = (sum_zero (used_in sh (opening sh) t) 0 (blocks_of sh t) each, ap (λ (h : Head). h.inserts) head)
+-- in the opening core the slots of its rows are in use, of which there are none
+pub opens_with_rows : OpensWithRows
+opens_with_rows sh t shape has = (
+  sum_zero (used_in sh (opening sh) t) 0 (blocks_of sh t) each ∙ none,
+  ap (λ (h : Head). h.inserts) (head sh shape t has) ∙ none,
+)
   where
-    head : head_at sh (opening sh) t ≡ opening_head (blocks_of sh t)
-    head = ap head_from (part_there (opening_part sh) (names sh) (HeadOf t) (head_named sh t has))
+    none : 0 ≡ length (rows_first sh t)
+    none = sym (ap (λ (rows : List Row). length rows) (no_rows sh shape.none t))
 
     either : (b : Bool) → cond {A = ℕ} b 0 0 ≡ 0
     either true = refl
@@ -616,9 +618,8 @@ opens_empty sh t shape has = (sum_zero (used_in sh (opening sh) t) 0 (blocks_of 
 
     each : (b : ℕ) → 0 ≤ b → b < 0 + blocks_of sh t → used_in sh (opening sh) t b ≡ 0
     each b low high =
-        let body = ap body_from (part_there (opening_part sh) (names sh) (BodyOf t b) (body_named sh t b (has, omega (arith, high)))) in
-        ap (λ (h : Head). cond (b == h.block) h.taken (cond (is_empty (body_at sh (opening sh) t b)) 0 (slots_of sh t))) head
-        ∙ ap (λ x. cond (b == 0) 0 (cond (is_empty x) 0 (slots_of sh t))) body
+        ap (λ (h : Head). cond (b == h.block) h.taken (cond (is_empty (body_at sh (opening sh) t b)) 0 (slots_of sh t))) (head sh shape t has)
+        ∙ ap (λ x. cond (b == 0) 0 (cond (is_empty x) 0 (slots_of sh t))) (body sh shape t b (has, omega (arith, high)))
         ∙ ap (λ e. cond (b == 0) 0 (cond e 0 (slots_of sh t))) (all_bare (slots_of sh t))
         ∙ either (b == 0)
 

@@ -12,7 +12,7 @@ use Rattle.event_spec.specs.Sound.{IsShape, Sound}
 use Rattle.isolation_spec.specs.Machine.{IsolationMachine}
 use Rattle.isolation_spec.specs.Machine as machine
 use Rattle.store_laws.specs.Room.{FullIsSpent, used}
-use Rattle.store_laws.proofs.Room.{full_is_full, opens_empty, room_is_counted}
+use Rattle.store_laws.proofs.Room.{full_is_full, opens_with_rows, room_is_counted}
 
 -- The state is sound and goes with a machine, and a table's slots in use are no more than its
 -- inserts.
@@ -41,8 +41,10 @@ last_may sh (made ∷ front) last s lawful = last_may sh front last (after sh s 
 -- It holds in the opening core.
 counts_first : (sh : Shape) (t : ℕ) → IsShape sh → HasTable sh t → Counts sh (opening sh) t
 counts_first sh t shape has =
-    let none = (opens_empty sh t shape has).0 in
-    record { ok = sound sh shape; at = machine.opening; follows = opening_follows sh shape; room = omega (arith, none) }
+    let rows = opens_with_rows sh t shape has in
+    let in_use = rows.0 in
+    let counted = rows.1 in
+    record { ok = sound sh shape; at = machine.opening_from sh.first; follows = opening_follows sh shape; room = omega (arith, in_use, counted) }
 
 -- an insert that is refused as full found all slots of its table taken
 pub full_is_spent : FullIsSpent

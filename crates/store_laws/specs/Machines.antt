@@ -44,9 +44,10 @@ moved_on before occurrence =
 
 -- The machine behind a log.
 abbrev pub machine_after : Shape → List Logged → IsolationMachine
-machine_after shape log = fold moved_on machine.opening (occurrences_in shape log)
+machine_after shape log = fold moved_on (machine.opening_from shape.first) (occurrences_in shape log)
 
--- The write sets of the commits in a log, the first commit first.
+-- The write sets of the commits behind a log, the first commit first: those that the core began
+-- with, and those in the log.
 abbrev pub commits_in : Shape → List Logged → History
 commits_in shape log = (machine_after shape log).history
 

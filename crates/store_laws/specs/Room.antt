@@ -1,5 +1,5 @@
 -- The room of a table, by the inserts that were granted.
-use Rattle.std.specs.Prelude.{◌≡◌, ℕ, ◌+◌, ◌*◌, ◌≤◌, ◌==◌, Bool, List, [], ◌∷◌, ◌++◌, sum_by}
+use Rattle.std.specs.Prelude.{◌≡◌, ℕ, ◌+◌, ◌*◌, ◌≤◌, ◌==◌, Bool, List, [], ◌∷◌, ◌++◌, length, sum_by}
 use Rattle.std.specs.Prelude.{if◌then◌else◌}
 use Rattle.block_spec.specs.Bodies.{is_empty}
 use Rattle.block_spec.specs.Slots.{Row}
@@ -12,6 +12,7 @@ use Rattle.event_spec.specs.Lawful.{HasTable, IsLawful}
 use Rattle.event_spec.specs.Parts.{Parts, Shape, below, blocks_of, body_at, head_at, is_head}
 use Rattle.event_spec.specs.Parts.{slots_of}
 use Rattle.event_spec.specs.Replay.{IsLawfulLog, Made, after, opening, replay, reply_after}
+use Rattle.event_spec.specs.Replay.{rows_first}
 use Rattle.event_spec.specs.Replies.{CoreReply, reply_to}
 use Rattle.event_spec.specs.Sound.{IsShape, Sound}
 use Rattle.core_laws.specs.Logs.Laws.{HasNoRoom}
@@ -52,10 +53,11 @@ inserted_by table (event.Seal at block) told = 0
 inserted_by table (event.Image at block image) told = 0
 inserted_by table (event.Thaw at block) told = 0
 
--- In the opening core no slot is in use.
-abbrev pub OpensEmpty : Type 0
-OpensEmpty = (shape : Shape) (table : ℕ) → IsShape shape → HasTable shape table
-    → (used shape (opening shape) table ≡ 0) × ((head_at shape (opening shape) table).inserts ≡ 0)
+-- In the opening core the slots in use are those of its rows, which its head counts as inserts.
+abbrev pub OpensWithRows : Type 0
+OpensWithRows = (shape : Shape) (table : ℕ) → IsShape shape → HasTable shape table
+    → (used shape (opening shape) table ≡ length (rows_first shape table))
+    × ((head_at shape (opening shape) table).inserts ≡ length (rows_first shape table))
 
 -- An event takes no more slots than its head counts, which is at most one for an insert.
 pub record CountsRoom (shape : Shape) (parts : Parts) (made : Made) (table : ℕ) : Type 0 where

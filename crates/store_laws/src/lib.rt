@@ -11,7 +11,7 @@ ghost use Rattle.store_laws.specs.Laws.{SingleEventsAreCalls, StampsAreFew};
 ghost use Rattle.store_laws.specs.Machines.{CommitsGoOn, LogsFollowTheMachine};
 ghost use Rattle.store_laws.specs.Stretches.{EventsAreAStretch, NothingIsAStretch};
 ghost use Rattle.store_laws.specs.Stretches.{StretchesJoin, StretchesLeaveOpen};
-ghost use Rattle.store_laws.specs.Room.{FullIsFull, FullIsSpent, OpensEmpty, RoomIsCounted};
+ghost use Rattle.store_laws.specs.Room.{FullIsFull, FullIsSpent, OpensWithRows, RoomIsCounted};
 
 /// The log of a store's hall is a lawful log of a run, and leaves the same parts.
 pub fn a_halls_log_is_a_runs_log()
@@ -53,7 +53,7 @@ pub fn a_single_event_is_a_call()
 /// more than those that were granted; without room for an insert they are all its slots, and the
 /// insert is refused with a count of at least so many.
 pub fn room_is_counted()
-    ensures opens { OpensEmpty }
+    ensures opens { OpensWithRows }
     ensures next { RoomIsCounted }
     ensures full { FullIsFull }
     ensures spent { FullIsSpent }

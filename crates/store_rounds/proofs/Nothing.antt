@@ -8,22 +8,22 @@ use Rattle.run_laws.specs.Rounds.Texts.{AreCounted}
 use Rattle.store_rounds.specs.Workloads.{GoesBefore, GoesStopped, WentBy}
 use Rattle.store_rounds.proofs.Scripts.{has_rounds}
 use Rattle.store_rounds.proofs.Sends.{nothing_sent}
-use Rattle.store_rounds.proofs.Went.{went_so_far}
+use Rattle.store_rounds.proofs.Went.{went_at_first}
 use Rattle.workload_spec.specs.Valid.{is_valid}
 use Rattle.workload_spec.specs.declared.script.Line.{Line}
 use Rattle.workload_spec.specs.declared.script.Script.{Script}
 
 -- the run stopped before the first round
-goes_before : (script : Script) (first : List Line) (rest : List (List Line)) (before exported : Option (List ℕ)) → script.rounds ≡ first ∷ rest → is_valid script ≡ true
+goes_before : (script : Script) (first : List Line) (rest : List (List Line)) (before exported : Option (List ℕ)) → script.rounds ≡ first ∷ rest
     → GoesBefore (WentBy script exported exported) script before before
-goes_before script first rest before exported split valid = record {
+goes_before script first rest before exported split = record {
   whole = [];
   round = first;
   rest = rest;
   rounds = split;
   ran = [];
   text = [];
-  went = went_so_far script [] [] exported exported (All-nil AreCounted) (λ who. tt) (nothing_sent script.tables exported) [] script.rounds refl valid (nothing_ran script);
+  went = went_at_first script [] [] exported exported (All-nil AreCounted) (λ who. tt) (nothing_sent script.tables exported) (nothing_ran script);
   printed = Appends-nil before;
 }
 
@@ -33,4 +33,4 @@ nothing_goes script before exported valid = go script.rounds refl (has_rounds sc
   where
     go : (rounds : List (List Line)) → script.rounds ≡ rounds → nat_lt 0 (length rounds) ≡ true → GoesStopped (WentBy script exported exported) script before before
     go [] split some = absurd (true≢false (sym some))
-    go (first ∷ rest) split some = inl (goes_before script first rest before exported split valid)
+    go (first ∷ rest) split some = inl (goes_before script first rest before exported split)

@@ -13,7 +13,7 @@ use Rattle.std.proofs.lemmas.List.Folds.{list_all-append}
 use Rattle.std.proofs.lemmas.List.Sums.{sum_by-append}
 use Rattle.byte_ports.specs.Calls.{AppendsFront}
 use Rattle.export_spec.specs.Calls.{calls_in}
-use Rattle.workload_spec.specs.Valid.{all_lines, is_command, is_export, is_line, is_valid, is_within, takes_command}
+use Rattle.workload_spec.specs.Valid.{all_lines, is_command, is_export, is_line, is_within, takes_command}
 use Rattle.workload_spec.specs.declared.reply.Who.{Who}
 use Rattle.workload_spec.specs.declared.reply.Who.TheVariants.{Session as TheSession, Worker as TheWorker}
 use Rattle.workload_spec.specs.declared.script.Line.{Line}
@@ -21,7 +21,7 @@ use Rattle.workload_spec.specs.declared.script.Script.{Script}
 use Rattle.event_spec.specs.Parts.{Shape}
 use Rattle.run_spec.specs.Calls.{Call, Kept}
 use Rattle.run_spec.specs.Occurrences.{Logged}
-use Rattle.run_spec.specs.Ran.{RoundRun, Share, shape_of}
+use Rattle.run_spec.specs.Ran.{IsRunnable, RoundRun, Share, shape_of}
 use Rattle.run_spec.specs.Ran.{calls_of as kept_calls}
 use Rattle.run_laws.proofs.Rounds.Lines.{rounds_grow}
 use Rattle.run_laws.proofs.Rounds.Rounds.{nothing_ran, rounds_go_on}
@@ -105,7 +105,7 @@ new_row_stands store count row new = record {
 
 -- before the first round, a new row stands behind no rounds, and nothing was printed or sent
 pub running_begins : (script : Script) (store : StoreView) (row : List Session) (before exported : Option (List ℕ))
-    → is_valid script ≡ true → shape_in store ≡ shape_of script → IsNewRow store (script.sessions + script.workers) row
+    → IsRunnable script → shape_in store ≡ shape_of script → IsNewRow store (script.sessions + script.workers) row
     → Running script store row [] before before exported exported 0
 running_begins script store row before exported valid shape new = record {
   rounds = [];
@@ -115,8 +115,8 @@ running_begins script store row before exported valid shape new = record {
   kept = kept_begins script row new.many (λ k d within. (new_at store (script.sessions + script.workers) row k d new within).unread);
   stands = new_row_stands store (script.sessions + script.workers) row new;
   is = record { shape = shape; size = new.many };
-  some = let one = has_sessions script valid in omega (arith, one);
-  turns = few_turns script valid;
+  some = let one = has_sessions script valid.valid in omega (arith, one);
+  turns = few_turns script valid.valid;
   few = λ k d within. let none = (new_at store (script.sessions + script.workers) row k d new within).made in omega (arith, none);
   printed = Appends-nil before;
   sent = nothing_sent script.tables exported;
@@ -298,7 +298,7 @@ module _ (script : Script) (store : StoreView) (old new : List Session) (asked :
   }
 
   -- its lines were not printed
-  pub running_is_cut_off : (rest : List (List Line)) (later : Option (List ℕ)) → is_valid script ≡ true → asked ++ lines ∷ rest ≡ script.rounds
+  pub running_is_cut_off : (rest : List (List Line)) (later : Option (List ℕ)) → IsRunnable script → asked ++ lines ∷ rest ≡ script.rounds
       → AppendsFront now later text
       → GoesCutOff (RunsIn script store new exported exported_later) script before later
   running_is_cut_off rest later valid split front =
@@ -337,7 +337,7 @@ module _ (script : Script) (store : StoreView) (old new : List Session) (asked :
 
 -- all rounds ran
 pub running_ends : (script : Script) (store : StoreView) (row : List Session) (asked : List (List Line)) (before now exported exported_now : Option (List ℕ)) (number : ℕ)
-    → is_valid script ≡ true → Running script store row asked before now exported exported_now number → asked ≡ script.rounds
+    → IsRunnable script → Running script store row asked before now exported exported_now number → asked ≡ script.rounds
     → GoesWhole (RunsIn script store row exported exported_now) script before now
 running_ends script store row asked before now exported exported_now number valid running all = record {
   ran = running.rounds;
@@ -355,10 +355,10 @@ running_ends script store row asked before now exported exported_now number vali
 
 -- each line of a round of a valid script is one
 round_valid : (script : Script) (asked rest : List (List Line)) (lines : List Line)
-    → asked ++ lines ∷ rest ≡ script.rounds → is_valid script ≡ true → list_all (is_line script) lines ≡ true
+    → asked ++ lines ∷ rest ≡ script.rounds → IsRunnable script → list_all (is_line script) lines ≡ true
 round_valid script asked rest lines split valid =
     let cut : list_all (is_line script) (lines_in asked ++ (lines ++ lines_in rest)) ≡ true =
-    ap (list_all (is_line script)) (sym (ap lines_in (sym split) ∙ parted_lines asked rest lines)) ∙ lines_are_valid script valid in
+    ap (list_all (is_line script)) (sym (ap lines_in (sym split) ∙ parted_lines asked rest lines)) ∙ lines_are_valid script valid.valid in
     let behind = (and_parts (list_all (is_line script) (lines_in asked)) (list_all (is_line script) (lines ++ lines_in rest))
     (sym (list_all-append (is_line script) (lines_in asked) (lines ++ lines_in rest)) ∙ cut)).1 in
     (and_parts (list_all (is_line script) lines) (list_all (is_line script) (lines_in rest))
@@ -387,7 +387,7 @@ module _ (script : Script) where
       (each_served lines parts.1)
 
 module _ (script : Script) (store : StoreView) (row : List Session) (asked rest : List (List Line)) (lines : List Line)
-    (is : IsRowOf script store row) (split : asked ++ lines ∷ rest ≡ script.rounds) (valid : is_valid script ≡ true) where
+    (is : IsRowOf script store row) (split : asked ++ lines ∷ rest ≡ script.rounds) (valid : IsRunnable script) where
   -- each line of the round is of one of the script's sessions
   pub round_within : list_all (λ (line : Line). is_within 1 script.sessions line.session) lines ≡ true
   round_within = each_within script lines (round_valid script asked rest lines split valid)
@@ -398,11 +398,11 @@ module _ (script : Script) (store : StoreView) (row : List Session) (asked rest 
       (each_served script lines (round_valid script asked rest lines split valid))
 
 -- it has one export at most
-pub round_once : (script : Script) (asked rest : List (List Line)) (lines : List Line) → asked ++ lines ∷ rest ≡ script.rounds → is_valid script ≡ true
+pub round_once : (script : Script) (asked rest : List (List Line)) (lines : List Line) → asked ++ lines ∷ rest ≡ script.rounds → IsRunnable script
     → count_by (λ (line : Line). is_export line.command) lines ≤ 1
 round_once script asked rest lines split valid =
     let exports = λ (line : Line). cond (is_export line.command) 1 0 in
-    let few = few_exports script valid in
+    let few = few_exports script valid.valid in
     let all = ap (λ rounds. sum_by exports (lines_in rounds)) (sym split) in
     let cut = ap (sum_by exports) (parted_lines asked rest lines) in
     let first = sum_by-append exports (lines_in asked) (lines ++ lines_in rest) in

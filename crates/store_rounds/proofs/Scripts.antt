@@ -1,5 +1,5 @@
 -- What a workload is made of, and that a store may be built of its tables.
-use Rattle.std.proofs.Common.{◌≡◌, ◌+◌, ◌≤◌, ◌^◌, ◌/◌, ◌*◌, ◌%◌, ◌==◌, min, Bool, true, ◌&&◌, nat_le, nat_lt, Option, None, Some, List, [], ◌∷◌, length, count_by, refl, arith}
+use Rattle.std.proofs.Common.{◌≡◌, ◌+◌, ◌≤◌, ◌^◌, ◌/◌, ◌*◌, ◌%◌, ◌==◌, ◌∙◌, min, Bool, true, ◌&&◌, nat_le, nat_lt, Option, None, Some, List, [], ◌∷◌, length, count_by, refl, sym, ap, subst, arith}
 use Rattle.std.specs.Prelude.{All, is_none}
 use Rattle.std.specs.List.{list_all}
 use Rattle.std.proofs.lemmas.Bool.{and_parts, leb-true}
@@ -7,10 +7,14 @@ use Rattle.std.proofs.lemmas.List.Elements.{All-cons, All-nil}
 use Rattle.cell_model.specs.declared.table.TableDecl.{TableDecl}
 use Rattle.cell_model.specs.Schemas.{IsSchema, begins_with_key, first_twins, most_columns, most_slots_of, row_bits}
 use Rattle.engine_core.specs.Core.{MayOpen}
+use Rattle.event_spec.specs.Parts.{Shape}
+use Rattle.event_spec.specs.Sound.{IsShape}
+use Rattle.isolation_spec.specs.Contents.{History}
+use Rattle.run_spec.specs.Ran.{IsRunnable, shape_of}
 use Rattle.script_text.proofs.Schemas.{all_named}
 use Rattle.workload_spec.specs.declared.script.Line.{Line}
 use Rattle.workload_spec.specs.declared.script.Script.{Script}
-use Rattle.workload_spec.specs.Valid.{all_lines, are_blocks, are_columns, are_slots, has_head, have_own_names, is_export, is_line, is_name, is_table, is_valid, is_within, least_slots, most_blocks, most_sessions, most_tables, most_turns, most_workers, has_version, is_column}
+use Rattle.workload_spec.specs.Valid.{IsWritten, all_lines, are_blocks, are_columns, are_slots, has_head, have_own_names, is_export, is_line, is_name, is_table, is_valid, is_within, least_slots, most_blocks, most_sessions, most_tables, most_turns, most_workers, has_version, is_column}
 
 -- the parts of a conjunction
 parts_of_four : (a b c d : Bool) → (a && b && c && d) ≡ true → (a ≡ true) × (b ≡ true) × (c ≡ true) × (d ≡ true)
@@ -160,3 +164,22 @@ may_open script valid =
       blocks = each (λ table. 1 ≤ table.blocks) (λ table has. has.some_blocks);
       slots = each (λ table. 1 ≤ table.slots) (λ table has. has.some_slots);
     }
+
+-- ---- a script as it is written
+
+module _ (script whole : Script) (same : whole ≡ script) (written : IsWritten script) where
+  -- a store that was built for it has its shape
+  pub shape_built : (tables : List TableDecl) (shape : Shape) → tables ≡ script.tables
+      → shape ≡ record { tables = tables; passes = script.sessions + script.workers; first = [] } → shape ≡ shape_of whole
+  shape_built tables shape own is =
+      is
+      ∙ ap (λ (its : List TableDecl). record { tables = its; passes = script.sessions + script.workers; first = [] }) own
+      ∙ ap (λ (first : History). record { tables = script.tables; passes = script.sessions + script.workers; first = first }) (sym written.begun)
+      ∙ ap shape_of (sym same)
+
+  -- and can run it
+  pub runs_built : (shape : Shape) → shape ≡ shape_of whole → IsShape shape → IsRunnable whole
+  runs_built shape is measures = record {
+    valid = ap is_valid same ∙ written.valid;
+    shape = subst IsShape is measures;
+  }

@@ -118,8 +118,8 @@ sends_by_tables : (shape : Shape) (table : ℕ) (made : List Occurrence) (told :
     → SendsAs (columns_in shape table) (blocks_of shape table) made told bytes
     → SendsAs (columns_at shape.tables table) (blocks_at shape.tables table) made told bytes
 sends_by_tables shape table made told bytes sends =
-    subst (λ (columns : List Column). SendsAs columns (blocks_at shape.tables table) made told bytes) (sym (columns_same shape.tables shape.passes table))
-    (subst (λ (blocks : ℕ). SendsAs (columns_in shape table) blocks made told bytes) (sym (blocks_same shape.tables shape.passes table)) sends)
+    subst (λ (columns : List Column). SendsAs columns (blocks_at shape.tables table) made told bytes) (sym (columns_same shape table))
+    (subst (λ (blocks : ℕ). SendsAs (columns_in shape table) blocks made told bytes) (sym (blocks_same shape table)) sends)
 
 -- an export that was made is a command that was answered
 pub export_answered : (store : StoreView) (old new : Session) (table : ℕ) (told : Result Summary ExportFault) (exported now : Option (List ℕ))

@@ -8,14 +8,14 @@ use Rattle.std.proofs.lemmas.Bool.Decides.{nat_tests}
 use Rattle.std.proofs.lemmas.List.{length-map, map-append}
 use Rattle.std.proofs.lemmas.List.Folds.{list_any-append}
 use Rattle.outcome_spec.specs.Forms.{commands_of}
-use Rattle.workload_spec.specs.Valid.{is_export, is_valid, is_within}
+use Rattle.workload_spec.specs.Valid.{is_export, is_within}
 use Rattle.workload_spec.specs.declared.command.Command.{Command}
 use Rattle.workload_spec.specs.declared.reply.Who.{Who}
 use Rattle.workload_spec.specs.declared.reply.Who.TheVariants.{Session as TheSession, Worker as TheWorker}
 use Rattle.workload_spec.specs.declared.script.Line.{Line}
 use Rattle.workload_spec.specs.declared.script.Script.{Script}
 use Rattle.run_spec.specs.Calls.{Call}
-use Rattle.run_spec.specs.Ran.{Share}
+use Rattle.run_spec.specs.Ran.{IsRunnable, Share}
 use Rattle.run_laws.proofs.Rounds.Fronts.{first_lines_are_so, first_lines_ask, fronts_are_valid}
 use Rattle.run_laws.specs.Rounds.Fronts.{AreFirstLines, first_lines, lines_of}
 use Rattle.run_laws.specs.Rounds.Lines.{round_text, rounds_text}
@@ -155,7 +155,7 @@ told_memory script calls one =
 -- ---- the run
 
 module _ (script : Script) (store : StoreView) (old new : List Session) (asked rest : List (List Line)) (before now exported exported_now exported_later : Option (List ℕ)) (number : ℕ) (lines : List Line)
-    (valid : is_valid script ≡ true) (split : asked ++ lines ∷ rest ≡ script.rounds)
+    (valid : IsRunnable script) (split : asked ++ lines ∷ rest ≡ script.rounds)
     (running : Running script store old asked before now exported exported_now number) where
   module _ (kept : List Line) (done : RoundDone script store old new kept exported_now exported_later) where
     abbrev these : List Share
@@ -210,7 +210,7 @@ module _ (script : Script) (store : StoreView) (old new : List Session) (asked r
           (counted_further script store old new asked before now exported exported_now exported_later number running first first_done)
           (keeps_more script store old new asked before now exported exported_now exported_later number running first first_done)
           (sent_further script store old new asked before now exported exported_now exported_later number running first first_done)
-          (asked ++ first ∷ []) (fronts_are_valid script counts lines asked rest (sym split) valid)
+          (asked ++ first ∷ []) (record { valid = fronts_are_valid script counts lines asked rest (sym split) valid.valid; shape = valid.shape })
           (ran_further script store old new asked before now exported exported_now exported_later number running first first_done);
       stands = stands_further script store old new asked before now exported exported_now exported_later number running first first_done;
     })

@@ -31,5 +31,6 @@ pub use crew::Crew;
 pub use fault::RunFault;
 pub use keeping::keep_up;
 pub use rounds::run_rounds;
+pub use store_export::{ExportFault, export_uncounted};
 pub use worker_turning::turn;
 pub use workload::run_workload;

@@ -1,8 +1,7 @@
 //! The rounds of a workload, one after another.
 ghost use Rattle.std.specs.Prelude.{◌≡◌, ◌+◌, ◌<◌, ◌≤◌, ◌^◌, IfErr, OnOk, Some, is_some, length, true};
-ghost use Rattle.run_spec.specs.Ran.{shape_of};
+ghost use Rattle.run_spec.specs.Ran.{IsRunnable, shape_of};
 ghost use Rattle.workload_spec.specs.ScriptText.{script_text};
-ghost use Rattle.workload_spec.specs.Valid.{is_valid};
 ghost use Rattle.shared_store.specs.Building.{IsNewRow};
 ghost use Rattle.shared_store.specs.Store.{shape_in};
 ghost use Rattle.standing_crew.specs.Desk.{AreHelpers};
@@ -53,7 +52,7 @@ pub fn run_rounds<R: Wait + Threads + Sync, O: Sink, X: Sink, G: Gate + Sync>(
     outlet: &mut X,
 ) -> Result<(), RunFault>
     requires rounds { rounds ≡ script.now.value.rounds }
-    requires valid { is_valid script.now.value ≡ true }
+    requires runnable { IsRunnable script.now.value }
     requires short { length (script_text script.now.value) < 2 ^ 32 }
     requires crew { crew ≡ crew_of script.now.value }
     requires shape { shape_in store.now ≡ shape_of script.now.value }
@@ -116,7 +115,7 @@ fn run_with_helpers<'d, 's, 'g, R: Wait + Threads + Sync, O: Sink, X: Sink, G: G
     requires free { AreFree 0 dispatcher.old.desks.now dispatcher.old.stations.items }
     requires helped { AreHelpers dispatcher.old.desks.now helpers.old }
     requires left { left.old ≡ Some script.now.value.rounds }
-    requires valid { is_valid script.now.value ≡ true }
+    requires runnable { IsRunnable script.now.value }
     requires short { length (script_text script.now.value) < 2 ^ 32 }
     requires crew { crew ≡ crew_of script.now.value }
     requires shape { shape_in dispatcher.old.store.now ≡ shape_of script.now.value }
@@ -138,7 +137,7 @@ fn run_with_helpers<'d, 's, 'g, R: Wait + Threads + Sync, O: Sink, X: Sink, G: G
     let mut here = || -> Result<(), RunFault>
         requires { AreFree 0 dispatcher.now.desks.now dispatcher.now.stations.items
             × (left.now ≡ Some script.now.value.rounds)
-            × (is_valid script.now.value ≡ true)
+            × IsRunnable script.now.value
             × (length (script_text script.now.value) < 2 ^ 32)
             × (crew ≡ crew_of script.now.value)
             × (shape_in dispatcher.now.store.now ≡ shape_of script.now.value)
@@ -177,7 +176,7 @@ fn run_left<R: Wait + Threads + Sync, O: Sink, X: Sink, G: Gate>(
 ) -> Result<(), RunFault>
     requires free { AreFree 0 dispatcher.old.desks.now dispatcher.old.stations.items }
     requires left { left.old ≡ Some script.now.value.rounds }
-    requires valid { is_valid script.now.value ≡ true }
+    requires runnable { IsRunnable script.now.value }
     requires short { length (script_text script.now.value) < 2 ^ 32 }
     requires crew { crew ≡ crew_of script.now.value }
     requires shape { shape_in dispatcher.old.store.now ≡ shape_of script.now.value }

@@ -1,7 +1,7 @@
 //! A workload, run over a store that is built for it.
-ghost use Rattle.std.specs.Prelude.{◌≡◌, ◌<◌, ◌^◌, IfErr, OnOk, length, true};
+ghost use Rattle.std.specs.Prelude.{◌≡◌, ◌<◌, ◌^◌, IfErr, OnOk, length};
 ghost use Rattle.workload_spec.specs.ScriptText.{script_text};
-ghost use Rattle.workload_spec.specs.Valid.{is_valid};
+ghost use Rattle.workload_spec.specs.Valid.{IsWritten};
 ghost use Rattle.store_rounds.specs.Workloads.{CountsExportFault, CountsOutFault};
 ghost use Rattle.store_rounds.specs.Workloads.{GoesPart, GoesWhole, WentBy};
 
@@ -16,9 +16,9 @@ use std::sync::Wait;
 use std::thread::Threads;
 use workload_spec::Script;
 
-/// Runs a workload over a store that is built for it. The lines of a round are printed when it has
-/// ended, session by session and worker by worker, and an export goes to the outlet. The gate is
-/// passed before each command and each turn.
+/// Runs a workload as it is written over a store that is built for it. The lines of a round are
+/// printed when it has ended, session by session and worker by worker, and an export goes to the
+/// outlet. The gate is passed before each command and each turn.
 ///
 /// # Errors
 ///
@@ -31,7 +31,7 @@ pub fn run_workload<R: Wait + Threads + Sync, O: Sink, X: Sink, G: Gate + Sync>(
     out: &mut O,
     outlet: &mut X,
 ) -> Result<(), RunFault>
-    requires valid { is_valid script ≡ true }
+    requires written { IsWritten script }
     requires short { length (script_text script) < 2 ^ 32 }
     ensures whole { OnOk result (GoesWhole
         (WentBy script (X.written outlet.old) (X.written outlet.new))
@@ -51,6 +51,7 @@ pub fn run_workload<R: Wait + Threads + Sync, O: Sink, X: Sink, G: Gate + Sync>(
         workers,
         turns,
         rounds,
+        begun: _,
     } = script;
     let crew = Crew {
         sessions,

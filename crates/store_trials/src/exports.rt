@@ -12,7 +12,7 @@ use std::io::{self, ErrorKind, Write};
 use std::process::Abort;
 use std::sync::Wait;
 use std::test::Fail;
-use store_export::{ExportFault, export_uncounted};
+use store_rounds::{ExportFault, export_uncounted};
 
 /// How many bytes the sink takes: the message of the schema, the head of that of the block, and
 /// three of the block's six keys.

@@ -1,7 +1,7 @@
 //! Turns over a table whose first block fills, cools, freezes, is thawed and is compacted.
-ghost use Rattle.std.specs.Prelude.{◌≡◌, ◌≤◌, ◌^◌, IfOk, OnOk, length, true};
-ghost use Rattle.engine_core.specs.Core.{MayOpen};
+ghost use Rattle.std.specs.Prelude.{◌≡◌, ◌≤◌, ◌^◌, [], IfOk, OnOk, length, true};
 ghost use Rattle.event_spec.specs.Lawful.{HasBlock};
+ghost use Rattle.shared_store.specs.Building.{MayOpen};
 ghost use Rattle.shared_store.specs.Store.{HasRoomFor, IsSession, MakesAtMost, shape_in};
 ghost use Rattle.store_rounds.specs.Sessions.{IsFreeSession};
 ghost use Rattle.workload_spec.specs.Valid.{fits_table, is_block_of};
@@ -117,9 +117,9 @@ const CASES: [Case; 9] = [
 fn tables(alloc: Global) -> Result<Vec<TableDecl>, Fail>
     ensures may_open { IfOk result (λ tables. MayOpen tables.items 3) }
     ensures block { IfOk result (λ tables.
-        HasBlock (record { tables = tables.items; passes = 3 }) 0 0) }
+        HasBlock (record { tables = tables.items; passes = 3; first = [] }) 0 0) }
     ensures head { IfOk result (λ tables.
-        HasBlock (record { tables = tables.items; passes = 3 }) 0 1) }
+        HasBlock (record { tables = tables.items; passes = 3; first = [] }) 0 1) }
     ensures known { IfOk result (λ tables. is_block_of tables.items 0 0 ≡ true) }
 {
     let key = Column {

@@ -265,14 +265,13 @@ module _ (tables : List TableDecl) (printed timeline : List Entry) (t : Timeline
   -- ---- full tables
 
   -- Where a table is found full, enough accepted inserts are not after the reply.
-  full-of : (asked : Command) → FindsFull tables cut.front asked
-      → option_map_or (λ table. nat_le (capacity_at tables table) (inserts_in table (not_after printed entry))) (inserted_table asked) true ≡ true
+  full-of : (asked : Command) → FindsFull [] tables cut.front asked
+      → option_map_or (λ table. nat_le (capacity_at tables table) (0 + inserts_in table (not_after printed entry))) (inserted_table asked) true ≡ true
   full-of (command.Insert table row) counts =
       let f : Entry → ℕ = λ other. cond (is_accepted_insert table other.command other.reply.said) 1 0 in
       let more : sum_by f cut.front ≤ sum_by f (not_after printed entry) = more-not_after f in
-      let least : capacity_at tables table ≤ sum_by f cut.front = counts in
-      let all : capacity_at tables table ≤ sum_by f (not_after printed entry) = le_trans least more in
-      at_most (capacity_at tables table) (sum_by f (not_after printed entry)) all
+      let least : capacity_at tables table ≤ 0 + sum_by f cut.front = counts in
+      at_most (capacity_at tables table) (0 + sum_by f (not_after printed entry)) (omega (arith, least, more))
   full-of _ counts = refl
 
   -- The rule of full tables holds of whatever the reply tells at its place.

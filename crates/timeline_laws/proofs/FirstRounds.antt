@@ -43,12 +43,12 @@ printed-first tables earlier (due ∷ dues) rest (Some said ∷ told) later h =
 
 -- The front of a run is explained.
 pub front-explained : FrontIsExplained
-front-explained script part told later valid same first may runs =
+front-explained script part told later valid none same first may runs =
     let printed = printed-first script.tables [] (dues_of part) first.0 told later may in
     let whole : printed_of script (told ++ later) ≡ printed_from script.tables [] (dues_of part) told ++ printed.0 =
     ap (λ (dues : List Due). printed_from script.tables [] dues (told ++ later)) first.1 ∙ printed.1 in
     let front = runs-front script.tables [] opening (printed_from script.tables [] (dues_of part) told) printed.0 (subst (Runs script.tables [] opening) whole runs) in
-    in-turn-explained part told valid may (subst (λ (tables : List TableDecl). Runs tables [] opening (printed_from tables [] (dues_of part) told)) (sym same) front)
+    in-turn-explained part told valid none may (subst (λ (tables : List TableDecl). Runs tables [] opening (printed_from tables [] (dues_of part) told)) (sym same) front)
 
 -- ---- the first rounds
 

@@ -1,5 +1,5 @@
 -- Commit numbers and snapshot numbers of a timeline.
-use Rattle.std.proofs.Common.{◌≡◌, ℕ, ◌+◌, ◌<◌, Bool, true, false, cond, ◌||◌, not, eqb, nat_le, nat_lt, List, [], ◌∷◌, ◌++◌, length, Option, None, Some, refl, sym, ap, ◌∙◌, arith, length-append, ◌⊎◌, inl, inr}
+use Rattle.std.proofs.Common.{◌≡◌, ℕ, ◌+◌, ◌<◌, Bool, true, false, cond, ◌&&◌, ◌||◌, not, eqb, nat_le, nat_lt, List, [], ◌∷◌, ◌++◌, length, Option, None, Some, refl, sym, ap, ◌∙◌, arith, length-append, ◌⊎◌, inl, inr}
 use Rattle.std.specs.Prelude.{is_some, fold}
 use Rattle.std.specs.Option.{option_map_or}
 use Rattle.std.specs.BTreeMap.{insert_entry, is_at}
@@ -8,6 +8,7 @@ use Rattle.std.specs.Map.{lookup}
 use Rattle.std.specs.Ordering.{is_eq}
 use Rattle.std.specs.declared.cmp.Ordering.{Ordering}
 use Rattle.std.specs.List.{filter_map, list_all, list_any, count_by, cons_option}
+use Rattle.std.proofs.lemmas.Bool.{and_from}
 use Rattle.std.proofs.lemmas.Bool.Decides.{nat_tests}
 use Rattle.std.proofs.lemmas.List.{length_push}
 use Rattle.std.proofs.lemmas.List.Folds.{list_any-append}
@@ -25,7 +26,7 @@ use Rattle.workload_spec.specs.declared.reply.Who.TheVariants.{Session}
 use Rattle.workload_spec.specs.declared.reply.Said.{Said}
 use Rattle.workload_spec.specs.declared.reply.Said.TheVariants as said
 use Rattle.outcome_spec.specs.Entries.{Entry, is_before, before, after, shown_in, snapshot_in, commit_in, is_end}
-use Rattle.outcome_spec.specs.Runs.{Span, Run, up_to_end, accepted_write, writes_in, commit_count, commits_as}
+use Rattle.outcome_spec.specs.Runs.{Span, Run, up_to_end, accepted_write, writes_in, commits_as}
 use Rattle.outcome_spec.specs.Runs.{transaction_of as belongs_to}
 use Rattle.outcome_spec.specs.Numbers.{has_written, commit_holds, commit_numbers_hold, number_shown, snapshot_holds, snapshot_numbers_hold}
 use Rattle.timeline_laws.proofs.Threads.{same-of}
@@ -40,7 +41,7 @@ use Rattle.timeline_laws.proofs.Belongs.{found-open}
 use Rattle.timeline_laws.proofs.Steps.{Change, quiet, opens, writes, ends, commits, Ends, Commits}
 use Rattle.timeline_laws.proofs.Walk.{Within, ended-unopened}
 use Rattle.timeline_laws.proofs.Cuts.{Cut}
-use Rattle.timeline_laws.proofs.Histories.{run, last, at-cut, commits-counted, within-own, below-other, above-other}
+use Rattle.timeline_laws.proofs.Histories.{run, last, at-cut, history-shown, within-own, below-other, above-other}
 
 -- ---- what a transaction with an empty write set wrote
 
@@ -156,6 +157,10 @@ module _ (tables : List TableDecl) (printed timeline : List Entry) (t : Timeline
       let written = written-is e.session e.t e.who_is e.at (ap is_end is.0) (rw is.0 refl) in
       ap (commit_holds the_run entry) is.0 ∙ ap not (written.2 ∙ nothing-any written.0 (none-written (filter_map accepted_write written.0) (written.1 ∙ is.1)))
 
+  -- As many commits as are told are behind the whole timeline.
+  many : length the_run.history ≡ length (last tables printed timeline t).history
+  many = ap length (history-shown tables printed timeline t)
+
   -- Commits before the reply have numbers below each that is above those in front.
   commits-before : (k : ℕ) → length cut.machine.history < k → list_all (λ earlier. nat_lt earlier k) (shown_in commit_in (before printed entry)) ≡ true
   commits-before k low =
@@ -171,7 +176,7 @@ module _ (tables : List TableDecl) (printed timeline : List Entry) (t : Timeline
       let wrote : has_written the_run entry ≡ true = written.2 ∙ wrote-by written.0 (list_any (λ other. is_some (accepted_write other)) written.0) refl c.wrote.0 c.wrote.1 (written.1 ∙ c.wrote.2) in
       let longer : length cut.after.history ≡ k = ap (λ (m : IsolationMachine). length m.history) c.is ∙ length_push cut.machine.history c.t.own in
       let all : length (last tables printed timeline t).history ≡ length cut.after.history + length cut.grows_after.more = ap length cut.grows_after.is ∙ length-append cut.after.history cut.grows_after.more in
-      let most : nat_le k (commit_count printed) ≡ true = at_most k (commit_count printed) (omega (arith, commits-counted tables printed timeline t, all, longer)) in
+      let most : nat_le k (length the_run.history) ≡ true = at_most k (length the_run.history) (omega (arith, many, all, longer)) in
       let low : list_all (λ x. nat_lt x k) (shown_in commit_in cut.front) ≡ true = rw cut.shown.commits_are (all-below k 1 (length cut.machine.history) (omega arith)) in
       let high : list_all (λ x. nat_lt k x) (shown_in commit_in cut.rest) ≡ true = rw cut.behind (all-above k (length cut.after.history + 1) (length cut.grows_after.more) (omega (arith, longer))) in
       let here : commits_as k entry ≡ true = ap (λ (s : Said). option_map_or (λ shown. eqb shown k) (commit_in s) false) c.said_is ∙ (let e : eqb k k ≡ true = grind (arith, nat_tests) in e) in
@@ -200,11 +205,13 @@ module _ (tables : List TableDecl) (printed timeline : List Entry) (t : Timeline
   opening-holds : (number : ℕ) → number ≡ length cut.machine.history → cut.after.history ≡ cut.machine.history → snapshot_holds the_run entry (said.At number) ≡ true
   opening-holds number is same =
       let all : length (last tables printed timeline t).history ≡ length cut.machine.history + length cut.grows.more = ap length cut.grows.is ∙ length-append cut.machine.history cut.grows.more in
-      let most : nat_le number (commit_count printed) ≡ true = at_most number (commit_count printed) (omega (arith, commits-counted tables printed timeline t, all, is)) in
+      let most : nat_le number (length the_run.history) ≡ true = at_most number (length the_run.history) (omega (arith, many, all, is)) in
+      let least : nat_le 0 number ≡ true = at_most 0 number (omega arith) in
       let in_front : list_all (λ x. nat_le x number) (shown_in number_shown cut.front) ≡ true = rw is cut.shown.numbers in
       let high : list_all (λ x. nat_lt number x) (shown_in commit_in cut.rest) ≡ true = rw cut.behind (all-above number (length cut.after.history + 1) (length cut.grows_after.more) (omega (arith, is, ap length same))) in
-      all-three (nat_le number (commit_count printed)) (list_all (λ earlier. nat_le earlier number) (shown_in number_shown (before printed entry))) (list_all (λ later. nat_lt number later) (shown_in commit_in (after printed entry)))
-      most
+      all-three (nat_le number (length the_run.history) && nat_le 0 number) (list_all (λ earlier. nat_le earlier number) (shown_in number_shown (before printed entry)))
+      (list_all (λ later. nat_lt number later) (shown_in commit_in (after printed entry)))
+      (and_from (nat_le number (length the_run.history)) (nat_le 0 number) most least)
       (shown-filter (λ x. nat_le x number) number_shown (λ other. is_before other entry) printed
       (before-each printed timeline cut.front entry cut.rest t.threads cut.whole t.order (λ other. shows_only (λ x. nat_le x number) number_shown other ≡ true) (shown-each (λ x. nat_le x number) number_shown cut.front in_front)))
       (shown-filter (λ x. nat_lt number x) commit_in (λ other. is_before entry other) printed

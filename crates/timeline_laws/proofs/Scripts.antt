@@ -385,8 +385,8 @@ timeline-read script told timeline valid may t =
 
 -- The printed text of a timeline is explained.
 pub run-explained : RunIsExplained
-run-explained script told timeline valid may t = timeline-explained script (text_of script told) (printed_of script told) timeline (timeline-read script told timeline valid may t) t
+run-explained script told timeline valid none may t = timeline-explained script (text_of script told) (printed_of script told) timeline none (timeline-read script told timeline valid may t) t
 
 -- So is that of replies that came about as they are printed.
 pub in-turn-explained : InTurnIsExplained
-in-turn-explained script told valid may runs = run-explained script told (printed_of script told) valid may (printed-in-turn script told runs)
+in-turn-explained script told valid none may runs = run-explained script told (printed_of script told) valid none may (printed-in-turn script told runs)

@@ -46,6 +46,7 @@ FrontIsValid = (script : Script) (rounds session count : ℕ) → rounds < lengt
 -- due in a front of the workload, is an explained output of that front.
 abbrev pub FrontIsExplained : Type 0
 FrontIsExplained = (script part : Script) (told later : List (Option Said)) → is_valid part ≡ true
+    → part.begun ≡ []
     → part.tables ≡ script.tables → IsDueFirst part script
     → AllMayStand (dues_of part) told
     → Runs script.tables [] opening (printed_of script (told ++ later))

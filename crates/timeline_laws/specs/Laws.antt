@@ -18,9 +18,10 @@ abbrev pub TimelineIsSound : Type 0
 TimelineIsSound = (tables : List TableDecl) (printed timeline : List Entry)
     → Timeline tables printed timeline → IsTrue (are_sound (run_of tables printed))
 
--- A text that is read as the replies of a timeline is explained.
+-- A text that is read as the replies of a timeline is explained, where its store began with nothing.
 abbrev pub TimelineIsExplained : Type 0
 TimelineIsExplained = (script : Script) (text : List ℕ) (printed timeline : List Entry)
+    → script.begun ≡ []
     → replies_of script text ≡ Ok printed → Timeline script.tables printed timeline
     → Explained script text
 
@@ -47,6 +48,7 @@ TimelineIsRead = (script : Script) (told : List (Option Said)) (timeline : List 
 abbrev pub RunIsExplained : Type 0
 RunIsExplained = (script : Script) (told : List (Option Said)) (timeline : List Entry)
     → is_valid script ≡ true
+    → script.begun ≡ []
     → AllMayStand (dues_of script) told
     → Timeline script.tables (printed_of script told) timeline
     → Explained script (text_of script told)
@@ -54,6 +56,7 @@ RunIsExplained = (script : Script) (told : List (Option Said)) (timeline : List 
 -- Replies that came about as they are printed are explained.
 abbrev pub InTurnIsExplained : Type 0
 InTurnIsExplained = (script : Script) (told : List (Option Said)) → is_valid script ≡ true
+    → script.begun ≡ []
     → AllMayStand (dues_of script) told
     → Runs script.tables [] opening (printed_of script told)
     → Explained script (text_of script told)

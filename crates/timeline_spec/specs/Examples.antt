@@ -3,7 +3,8 @@
 use Rattle.std.specs.Prelude.{◌≡◌, ℕ, List, [], ◌∷◌, ◌++◌, map, take, drop, replicate, pos, codes}
 use Rattle.std.specs.Prelude.{Option, None, Some, Ok}
 use Rattle.std.specs.List.{range_with_len}
-use Rattle.isolation_spec.specs.Machine.{IsolationMachine, opening}
+use Rattle.isolation_spec.specs.Contents.{History, place_at}
+use Rattle.isolation_spec.specs.Machine.{IsolationMachine, opening, opening_from}
 use Rattle.outcome_spec.specs.Explained.{replies_of}
 use Rattle.workload_spec.specs.declared.command.Command.{Command}
 use Rattle.workload_spec.specs.declared.command.Command.TheVariants as command
@@ -18,7 +19,7 @@ use Rattle.outcome_spec.specs.Forms.{dues_of}
 use Rattle.outcome_spec.specs.Samples.{texts, keys, key_row, sessions, with_worker, begin, insert}
 use Rattle.outcome_spec.specs.Samples.{put, puts, touch, delete, commit, prune, compact, seal}
 use Rattle.outcome_spec.specs.Samples.{gather, export, begin_checked, get}
-use Rattle.timeline_spec.specs.Timeline.{Timeline, InOrder, Runs, Counts, Aside}
+use Rattle.timeline_spec.specs.Timeline.{Timeline, InOrder, Runs, RunsFrom, Counts, CountsFrom, Aside}
 use Rattle.timeline_spec.specs.Printed.{printed_of, text_of}
 use Rattle.timeline_spec.specs.Forms.{AllMayStand}
 
@@ -118,6 +119,24 @@ OthersDoNot =
     × IsUncounted 20 (command.Compact 0) (said.Moved 65)
     × IsUncounted 21 command.Prune (said.Pruned 14)
     × IsUncounted 22 command.Prune (said.Pruned 1)
+
+-- A store that begins with a commit of seven of the table's eight rows: a session sees it, adds a
+-- row, finds the table full, and commits behind it.
+abbrev pub seven_rows : History
+seven_rows = map (λ key. (place_at 0 (pos key), Some (key_row key))) (range_with_len 1 7) ∷ []
+
+abbrev pub nearly_full : Script
+nearly_full = record (sessions (keys 1)
+    ((begin 1 ∷ put 1 8 ∷ put 1 9 ∷ commit 1 ∷ []) ∷ [])) { begun = seven_rows }
+
+abbrev pub full_told : List (Option Said)
+full_told = map Some (said.At 1 ∷ said.Accepted ∷ said.Full ∷ said.Committed (Some 2) ∷ [])
+
+abbrev pub FullComesAbout : Type 0
+FullComesAbout =
+    RunsFrom seven_rows nearly_full.tables [] (opening_from seven_rows)
+    (printed_of nearly_full full_told)
+    × (CountsFrom seven_rows nearly_full.tables [] (command.Insert 0 (key_row 8)) said.Full → ⊥)
 
 -- eight rows were committed, and the session's transaction has them in its snapshot
 abbrev pub eight : IsolationMachine

@@ -3,7 +3,7 @@
 
 ghost use Rattle.timeline_spec.specs.Examples.{OneWasRefused, SecondCameFirst, BlocksComeAbout};
 ghost use Rattle.timeline_spec.specs.Examples.{OthersDoNot, OthersAreNotExported};
-ghost use Rattle.timeline_spec.specs.Examples.{OthersAreNoTimeline, StaleComesAbout};
+ghost use Rattle.timeline_spec.specs.Examples.{FullComesAbout, OthersAreNoTimeline, StaleComesAbout};
 
 /// Which of a worker's gatherings was refused memory is not told by its line, and not by what is
 /// read from it.
@@ -40,4 +40,9 @@ pub fn others_do_not()
 /// What an export is not told.
 pub fn others_are_not_exported()
     ensures { OthersAreNotExported }
+{}
+
+/// A table is full with the rows that its store begins with.
+pub fn a_full_table_comes_about()
+    ensures { FullComesAbout }
 {}

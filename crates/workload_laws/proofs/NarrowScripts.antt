@@ -95,7 +95,7 @@ narrow_lines version extent all is = let b = bounds extent is in record {
       step (next_line (length tables.0 + 2 + 2) cause.Go workers_line.1) _ script e9 (λ go is10 e10.
       step (on_line (length tables.0 + 2 + 2) (rule cause.Go (bytes_eq go.0 (codes "go")))) _ script e10 (λ w is11 e11.
       step (rounds_from extent tables.0 sessions (length tables.0 + 2 + 3) false go.1) _ script e11 (λ rounds is12 e12.
-      let made : Script = record { version = version; tables = tables.0; sessions = sessions; workers = workers.0; turns = workers.1; rounds = rounds } in
+      let made : Script = record { version = version; tables = tables.0; sessions = sessions; workers = workers.0; turns = workers.1; rounds = rounds; begun = [] } in
       let same : made ≡ script = cc in
       let t = (narrow_tables extent 2 [] all b.tables b.some b.columns (no_tables extent)).to tables is5 in
       let s = (narrow_sessions extent (words_of sessions_line.0) b.sessions).to sessions (on_line_is _ (sessions_of extent (words_of sessions_line.0)) sessions is7) in
@@ -116,7 +116,7 @@ narrow_lines version extent all is = let b = bounds extent is in record {
       step (next_line (length tables.0 + 2 + 2) cause.Go workers_line.1) _ script e9 (λ go is10 e10.
       step (on_line (length tables.0 + 2 + 2) (rule cause.Go (bytes_eq go.0 (codes "go")))) _ script e10 (λ w is11 e11.
       step (rounds_from whole tables.0 sessions (length tables.0 + 2 + 3) false go.1) _ script e11 (λ rounds is12 e12.
-      let made : Script = record { version = version; tables = tables.0; sessions = sessions; workers = workers.0; turns = workers.1; rounds = rounds } in
+      let made : Script = record { version = version; tables = tables.0; sessions = sessions; workers = workers.0; turns = workers.1; rounds = rounds; begun = [] } in
       let same : made ≡ script = cc in
       let k = keeps extent made (subst (RunsWithin extent) (sym same) within) in
       let t = (narrow_tables extent 2 [] all b.tables b.some b.columns (no_tables extent)).back tables is5 k.tables in

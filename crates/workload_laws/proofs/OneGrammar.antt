@@ -14,7 +14,7 @@ use Rattle.workload_spec.specs.Extents.{extent_of, is_taken, RunsWithin}
 use Rattle.workload_spec.specs.Grammar.{or_cause, on_line, next_line, version_of, script_of}
 use Rattle.workload_spec.specs.Reading.{parts}
 use Rattle.workload_spec.specs.ScriptText.{script_text}
-use Rattle.workload_spec.specs.Valid.{is_table, takes_command, takes_later_kinds, are_taken_kinds, is_version, has_version, is_valid, all_lines, most_workers, most_turns}
+use Rattle.workload_spec.specs.Valid.{IsWritten, is_table, takes_command, takes_later_kinds, are_taken_kinds, is_version, has_version, is_valid, all_lines, most_workers, most_turns}
 use Rattle.workload_spec.specs.Words.{line_feed, spaced}
 use Rattle.workload_laws.proofs.Results.{step, gives, some_of, on_line_is}
 use Rattle.workload_laws.proofs.Lists.{joined, all_and}
@@ -57,7 +57,7 @@ lines_taken version [] = refl
 lines_taken version (line ∷ lines) = rw (command_taken version line.command, lines_taken version lines) refl
 
 -- A workload that is read is one, and its text is what was read.
-pub read_is_text : (bytes : List ℕ) (script : Script) → script_of bytes ≡ Ok script → (script_text script ≡ bytes) × (is_valid script ≡ true)
+pub read_is_text : (bytes : List ℕ) (script : Script) → script_of bytes ≡ Ok script → (script_text script ≡ bytes) × IsWritten script
 read_is_text bytes script e =
     step (next_line 1 cause.Version (parts line_feed bytes)) _ script e (λ store is1 e1.
     step (on_line 1 (or_cause cause.Version (version_of store.0))) _ script e1 (λ version is2 e2.
@@ -66,8 +66,11 @@ read_is_text bytes script e =
     let read = lines_read version store.1 script within.0 in
     let first = next_is 1 cause.Version (parts line_feed bytes) store is1 in (
       read.text ∙ ap (λ (line : List ℕ). line ++ line_feed ∷ rest_text store.1) (sym named.0) ∙ sym first.text ∙ parts_joined line_feed bytes,
-      read.valid (has_read version script named.1 read.told within.1)
-          (ap (λ (v : ℕ). list_all (λ line. takes_command v line.command) (all_lines script)) read.told ∙ sym (lines_taken version (all_lines script)) ∙ commands_taken (extent_of version) script within.1),
+      record {
+        valid = read.valid (has_read version script named.1 read.told within.1)
+            (ap (λ (v : ℕ). list_all (λ line. takes_command v line.command) (all_lines script)) read.told ∙ sym (lines_taken version (all_lines script)) ∙ commands_taken (extent_of version) script within.1);
+        begun = read.none;
+      },
     )))
 
 -- A workload runs within the extent of its version.
@@ -100,13 +103,14 @@ valid_within script valid =
       rounds = record { few = refl; each = lines_taken script.version (all_lines script) ∙ parts.taken };
     })
 
--- A workload is read from its text.
-pub text_is_read : (script : Script) → is_valid script ≡ true → script_of (script_text script) ≡ Ok script
-text_is_read script valid =
+-- A workload as it is written is read from its text.
+pub text_is_read : (script : Script) → IsWritten script → script_of (script_text script) ≡ Ok script
+text_is_read script written =
+    let valid = written.valid in
     let bytes = valid_bytes script valid in
     let version = script.version in
     let line : List ℕ = spaced (store_words version) in
     let apart = text_apart script valid bytes in
-    let back = (read_within version (extent_of version) (behind_lines script) script (extent_is version)).1 (behind_back script valid bytes, valid_within script valid) in
+    let back = (read_within version (extent_of version) (behind_lines script) script (extent_is version)).1 (behind_back script valid written.begun bytes, valid_within script valid) in
     gives (next_line 1 cause.Version (parts line_feed (script_text script))) _ (Ok script) (line, behind_lines script) (ap (next_line 1 cause.Version) apart ∙ next_back 1 cause.Version line (behind_lines script) (some_behind script))
     (gives (on_line 1 (or_cause cause.Version (version_of line))) _ (Ok script) version (ap (λ o. on_line 1 (or_cause cause.Version o)) (version_back version (script_parts script valid).version)) back)

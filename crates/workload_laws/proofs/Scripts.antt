@@ -88,9 +88,9 @@ version_back version is = version_by (λ v. version_of (spaced (store_words v)) 
 -- and takes its commands
 valid : (version : ℕ) (tables : List TableDecl) (sessions workers turns : ℕ) (rounds : List (List Line)) (lines : List (List ℕ)) → 0 < length tables → nat_le (length tables) most_tables ≡ true → list_all is_table tables ≡ true → have_own_names tables ≡ true
     → is_within 1 most_sessions sessions ≡ true → is_within 0 most_workers workers ≡ true → is_within 0 most_turns turns ≡ true → ReadsRounds tables sessions false lines rounds
-    → has_version (record { version = version; tables = tables; sessions = sessions; workers = workers; turns = turns; rounds = rounds }) ≡ true
+    → has_version (record { version = version; tables = tables; sessions = sessions; workers = workers; turns = turns; rounds = rounds; begun = [] }) ≡ true
     → list_all (λ line. takes_command version line.command) (lines_of rounds) ≡ true
-    → is_valid (record { version = version; tables = tables; sessions = sessions; workers = workers; turns = turns; rounds = rounds }) ≡ true
+    → is_valid (record { version = version; tables = tables; sessions = sessions; workers = workers; turns = turns; rounds = rounds; begun = [] }) ≡ true
 valid version tables sessions workers turns rounds lines some few each own in_sessions in_workers in_turns all has taken =
     joined (joined (joined
     (joined (joined (joined (joined (joined (joined has (joined (le-leb 1 (length tables) some) few)) each) own) in_sessions) (and_parts (nat_le 0 workers) _ in_workers).1) (and_parts (nat_le 0 turns) _ in_turns).1)
@@ -103,6 +103,7 @@ pub record ReadsBehind (version : ℕ) (lines : List (List ℕ)) (script : Scrip
   pub text : script_text script ≡ spaced (store_words version) ++ line_feed ∷ rest_text lines
   pub valid : has_version script ≡ true → list_all (λ line. takes_command script.version line.command) (all_lines script) ≡ true → is_valid script ≡ true
   pub bytes : writes_only_bytes script ≡ true
+  pub none : script.begun ≡ []
 
 -- the lines that are read as a script are its text behind the first, and it is a workload
 pub lines_read : (version : ℕ) (all : List (List ℕ)) (script : Script) → script_behind version whole all ≡ Ok script → ReadsBehind version all script
@@ -117,7 +118,7 @@ lines_read version all script e =
     step (next_line (length tables.0 + 2 + 2) cause.Go workers_line.1) _ script e9 (λ go is10 e10.
     step (on_line (length tables.0 + 2 + 2) (rule cause.Go (bytes_eq go.0 (codes "go")))) _ script e10 (λ w is11 e11.
     step (rounds_from whole tables.0 sessions (length tables.0 + 2 + 3) false go.1) _ script e11 (λ rounds is12 e12.
-    let same : record { version = version; tables = tables.0; sessions = sessions; workers = workers.0; turns = workers.1; rounds = rounds } ≡ script = cc in
+    let same : record { version = version; tables = tables.0; sessions = sessions; workers = workers.0; turns = workers.1; rounds = rounds; begun = [] } ≡ script = cc in
     let n2 = next_is 2 cause.Table all first is3 in
     let n6 = next_is (length tables.0 + 2) cause.Sessions tables.1 sessions_line is6 in
     let n8 = next_is (length tables.0 + 2 + 1) cause.Workers sessions_line.1 workers_line is8 in
@@ -140,4 +141,5 @@ lines_read version all script e =
           (tables_some 2 [] first.0 first.1 tables (rule_of cause.Table _ v (on_line_is 2 _ v is4)) n2.more (ap (tables_from whole 2 []) (sym n2.is) ∙ is5))
           (ts.few refl) (ts.each refl) (ts.own refl) ss.1 ws.1 ws.2 rs;
       bytes = rs.bytes;
+      none = refl;
     })))))))))))

@@ -1,5 +1,5 @@
 -- Workloads are read back from their texts.
-use Rattle.std.proofs.Common.{◌≡◌, ℕ, ◌+◌, ◌^◌, ◌<◌, ◌≤◌, true, false, List, [], ◌∷◌, ◌++◌, length, map, refl, ap, ◌∙◌, arith, append_assoc, length-append}
+use Rattle.std.proofs.Common.{◌≡◌, ℕ, ◌+◌, ◌^◌, ◌<◌, ◌≤◌, true, false, List, [], ◌∷◌, ◌++◌, length, map, refl, sym, ap, ◌∙◌, arith, append_assoc, length-append}
 use Rattle.std.specs.Prelude.{◌&&◌, nat_le, nat_lt, bytes_eq, codes, decimal, count_by, Result, Ok}
 use Rattle.std.specs.List.{list_all}
 use Rattle.std.proofs.lemmas.Bool.{ltb-true, leb-true, le-leb, and_parts}
@@ -79,9 +79,9 @@ pub assembled : (version : ℕ) (extent : Extent) (all : List (List ℕ)) (first
     → tables_from extent 2 [] all ≡ Ok tables → next_line (length tables.0 + 2) cause.Sessions tables.1 ≡ Ok sessions_line → sessions_of extent (words_of sessions_line.0) ≡ Ok sessions
     → next_line (length tables.0 + 2 + 1) cause.Workers sessions_line.1 ≡ Ok workers_line → workers_of extent (words_of workers_line.0) ≡ Ok workers
     → next_line (length tables.0 + 2 + 2) cause.Go workers_line.1 ≡ Ok go → bytes_eq go.0 (codes "go") ≡ true → rounds_from extent tables.0 sessions (length tables.0 + 2 + 3) false go.1 ≡ Ok rounds
-    → script_behind version extent all ≡ Ok (record { version = version; tables = tables.0; sessions = sessions; workers = workers.0; turns = workers.1; rounds = rounds })
+    → script_behind version extent all ≡ Ok (record { version = version; tables = tables.0; sessions = sessions; workers = workers.0; turns = workers.1; rounds = rounds; begun = [] })
 assembled version extent all first tables sessions_line sessions workers_line workers go rounds e3 e4 e5 e6 e7 e8 e9 e10 e11 e12 =
-    let made : Result Script Fault = Ok (record { version = version; tables = tables.0; sessions = sessions; workers = workers.0; turns = workers.1; rounds = rounds }) in
+    let made : Result Script Fault = Ok (record { version = version; tables = tables.0; sessions = sessions; workers = workers.0; turns = workers.1; rounds = rounds; begun = [] }) in
     gives (next_line 2 cause.Table all) _ made first e3
     (gives (on_line 2 (rule cause.Table (is_table_line first.0))) _ made tt (ap (on_line 2) (rule_back cause.Table (is_table_line first.0) e4))
     (gives (tables_from extent 2 [] all) _ made tables e5
@@ -164,7 +164,7 @@ small_of low high n fits within = omega (arith, within_high low high n within, f
 parts_back : (version : ℕ) (table : TableDecl) (more : List TableDecl) (sessions workers turns : ℕ) (round : List Line) (others : List (List Line)) → length (table ∷ more) ≤ 16 → Head (table ∷ more) sessions → is_within 1 most_sessions sessions ≡ true
     → is_within 0 most_workers workers ≡ true → is_within 0 most_turns turns ≡ true → AreFine (table ∷ more) sessions false (lines_of (round ∷ others))
     → script_behind version whole (map table_text (table ∷ more) ++ spaced (sessions_words sessions) ∷ spaced (workers_words workers turns) ∷ codes "go" ∷ ended (round_lines (table ∷ more) (round ∷ others)))
-    ≡ Ok (record { version = version; tables = table ∷ more; sessions = sessions; workers = workers; turns = turns; rounds = round ∷ others })
+    ≡ Ok (record { version = version; tables = table ∷ more; sessions = sessions; workers = workers; turns = turns; rounds = round ∷ others; begun = [] })
 parts_back version table more sessions workers turns round others few head in_sessions in_workers in_turns are =
     let rounds : List (List ℕ) = ended (round_lines (table ∷ more) (round ∷ others)) in
     let go : List (List ℕ) = codes "go" ∷ rounds in
@@ -200,7 +200,7 @@ lines_are script =
 abbrev IsBack : Script → List TableDecl → List (List Line) → Type 0
 IsBack script tables rounds = length tables ≤ 16 → Head tables script.sessions → AreFine tables script.sessions false (lines_of rounds)
     → script_behind script.version whole (map table_text tables ++ spaced (sessions_words script.sessions) ∷ spaced (workers_words script.workers script.turns) ∷ codes "go" ∷ ended (round_lines tables rounds))
-    ≡ Ok (record { version = script.version; tables = tables; sessions = script.sessions; workers = script.workers; turns = script.turns; rounds = rounds })
+    ≡ Ok (record { version = script.version; tables = tables; sessions = script.sessions; workers = script.workers; turns = script.turns; rounds = rounds; begun = [] })
 
 -- Where there are tables and rounds, a workload's lines with them are read as it.
 back_by : (script : Script) (tables : List TableDecl) (rounds : List (List Line)) → ScriptParts script → 0 < length tables → 0 < length rounds → IsBack script tables rounds
@@ -209,11 +209,13 @@ back_by script (table ∷ tables) [] parts some many = absurd (omega (arith, man
 back_by script (table ∷ tables) (round ∷ rounds) parts some many =
     λ few head are. parts_back script.version table tables script.sessions script.workers script.turns round rounds few head parts.sessions parts.workers parts.turns are
 
--- a workload whose cells of bytes have bytes is read back from its lines behind the first
-pub behind_back : (script : Script) → is_valid script ≡ true → writes_only_bytes script ≡ true → script_behind script.version whole (behind_lines script) ≡ Ok script
-behind_back script valid bytes =
+-- a workload whose cells of bytes have bytes, and whose store begins with nothing, is read back from
+-- its lines behind the first
+pub behind_back : (script : Script) → is_valid script ≡ true → script.begun ≡ [] → writes_only_bytes script ≡ true → script_behind script.version whole (behind_lines script) ≡ Ok script
+behind_back script valid none bytes =
     let parts = script_parts script valid in
     back_by script script.tables script.rounds parts parts.some parts.rounds parts.tables parts.head (fine script parts bytes)
+    ∙ ap (λ begun. Ok (record script { begun = begun })) (sym none)
 
 -- The lines of tables have no line feed in them.
 tables_whole : (tables : List TableDecl) → list_all is_table tables ≡ true → list_all is_whole (map table_text tables) ≡ true

@@ -11,7 +11,7 @@ use Rattle.workload_spec.specs.declared.script.Script.{Script}
 use Rattle.workload_spec.specs.Extents.{RunsWithin, is_extent, whole}
 use Rattle.workload_spec.specs.Grammar.{kind_of, script_behind, script_of}
 use Rattle.workload_spec.specs.ScriptText.{kind_text, script_text}
-use Rattle.workload_spec.specs.Valid.{is_valid}
+use Rattle.workload_spec.specs.Valid.{IsWritten}
 
 -- Lines behind the first are read within an extent as a script exactly where the whole format reads
 -- them as it and it runs within the extent. So a version takes of the whole format, which the
@@ -35,11 +35,11 @@ FirstVersionHasItsKinds = (word : List ℕ) → kind_of false word ≡ option_or
     (option_map (λ kind. (kind, true))
     (find (λ kind. bytes_eq (kind_text kind ++ codes "?") word) first_kinds))
 
--- Bytes that are read as a script are its text, and the script is a workload.
+-- Bytes that are read as a script are its text, and the script is a workload as it is written.
 abbrev pub ReadIsText : Type 0
 ReadIsText = (bytes : List ℕ) (script : Script) → script_of bytes ≡ Ok script
-    → (script_text script ≡ bytes) × (is_valid script ≡ true)
+    → (script_text script ≡ bytes) × IsWritten script
 
--- The text of a workload is read as it.
+-- The text of a workload as it is written is read as it.
 abbrev pub TextIsRead : Type 0
-TextIsRead = (script : Script) → is_valid script ≡ true → script_of (script_text script) ≡ Ok script
+TextIsRead = (script : Script) → IsWritten script → script_of (script_text script) ≡ Ok script

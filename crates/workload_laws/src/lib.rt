@@ -16,12 +16,12 @@ pub fn the_first_version_has_its_kinds()
     ensures { FirstVersionHasItsKinds }
 {}
 
-/// What is read is the text of what it is read as, which is a workload.
+/// What is read is the text of what it is read as, which is a workload as it is written.
 pub fn what_is_read_is_its_text()
     ensures { ReadIsText }
 {}
 
-/// The text of a workload is read as that workload.
+/// The text of a workload as it is written is read as that workload.
 pub fn a_text_is_read_as_its_script()
     ensures { TextIsRead }
 {}

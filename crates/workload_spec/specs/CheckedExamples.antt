@@ -52,6 +52,7 @@ script_with version asked = record {
   workers = 0;
   turns = 0;
   rounds = (record { session = 1; command = asked } ∷ []) ∷ [];
+  begun = [];
 }
 
 -- the commands, as lines and as data

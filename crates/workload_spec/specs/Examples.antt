@@ -116,6 +116,7 @@ example_script = record {
         session = 1;
         command = command.Seal 0 1;
       } ∷ []) ∷ [];
+  begun = [];
 }
 
 abbrev pub head : List (List ℕ)
@@ -295,6 +296,7 @@ later_script = record {
     session = 1;
     command = command.Insert 0 (Num (pos 1) ∷ Num (negsuc 0) ∷ Blob (0 ∷ 1 ∷ []) ∷ []);
   } ∷ []) ∷ [];
+  begun = [];
 }
 
 -- the head of a workload of a version with that table, and lines behind it

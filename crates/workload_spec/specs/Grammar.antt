@@ -437,6 +437,7 @@ script_behind version extent all = do
     workers = workers.0;
     turns = workers.1;
     rounds = rounds;
+    begun = [];
   })
 
 -- The workload that the lines are: its version, and behind it what that takes.

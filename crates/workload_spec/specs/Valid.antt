@@ -1,5 +1,5 @@
 -- Which scripts are workloads: names, limits, cells that fit, and at most one export.
-use Rattle.std.specs.Prelude.{ℕ, ◌%◌, Bool, true, false, ◌&&◌, ◌||◌, not, ◌==◌, nat_lt, nat_le}
+use Rattle.std.specs.Prelude.{◌≡◌, ℕ, ◌%◌, Bool, true, false, ◌&&◌, ◌||◌, not, ◌==◌, nat_lt, nat_le}
 use Rattle.std.specs.Prelude.{List, [], ◌∷◌, length, flat_map, count_by, is_some, is_none}
 use Rattle.std.specs.Prelude.{slice_get, bytes_eq, ℤ}
 use Rattle.std.specs.List.{list_all, list_any}
@@ -271,3 +271,8 @@ abbrev pub is_valid : Script → Bool
 is_valid script = has_head script && nat_lt 0 (length script.rounds)
     && list_all (is_line script) (all_lines script)
     && nat_le (count_by (λ line. is_export line.command) (all_lines script)) 1
+
+-- A workload as it is written: it is valid, and its store begins with nothing.
+pub record IsWritten (script : Script) : Type 0 where
+  pub valid : is_valid script ≡ true
+  pub begun : script.begun ≡ []

@@ -10,5 +10,6 @@ pub mod script;
 
 pub use command::{Bound, Command};
 pub use extent::{Commands, Extent};
+pub use isolation_spec::History;
 pub use reply::{ReplyLine, Said, SealCause, StaleRead, Who};
 pub use script::{Cause, Line, Round, Rounds, Script, Tables};

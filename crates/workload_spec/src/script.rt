@@ -3,10 +3,11 @@ ghost use Rattle.std.specs.Prelude.{◌≡◌, length};
 
 use crate::command::Command;
 use cell_model::TableDecl;
+use isolation_spec::History;
 use std::marker::Model;
 
-/// A workload: the tables, how many sessions and workers run, and what each session asks in each
-/// round.
+/// A workload: the tables, how many sessions and workers run, what each session asks in each round,
+/// and the commits that its store begins with.
 #[derive(Debug, Drop)]
 pub struct Script {
     /// The version of the workload format: 1 or 2.
@@ -17,6 +18,8 @@ pub struct Script {
     /// How many turns each worker makes in each round.
     pub turns: u32,
     pub rounds: Rounds,
+    /// The commits that the store begins with: none in a workload as it is written.
+    pub begun: History,
 }
 
 /// The declared tables, in order.

@@ -1,13 +1,14 @@
 -- Shards have entries of their own keys alone, and no empty one, before and after every event.
 use Rattle.std.proofs.Common.{◌≡◌, ◌≢◌, ◌⊎◌, ℕ, ℤ, Bool, true, false, cond, ◌&&◌, ◌==◌, List, [], ◌∷◌, ◌++◌, Option, None, Some, option_map, is_none, is_some, map, fold, unwrap_or, refl, sym, ap, ◌∙◌, subst}
 use mathlib.Core.Logic.{inl, inr}
-use Rattle.std.specs.Prelude.{filter, Result, Ok, Err}
+use Rattle.std.specs.Prelude.{◌+◌, ◌/◌, ◌%◌, filter, Result, Ok, Err}
 use Rattle.std.specs.List.{list_any}
 use Rattle.std.specs.Ordering.{int_cmp, eq_by_cmp}
 use Rattle.std.specs.Cmp.{int_cmp_total}
 use Rattle.std.specs.FinMap as finite
 use Rattle.std.specs.FinMap.{contains_key-keys, get-empty, get-insert, get-remove, int_cmp-IsAntisymmetric, same_map}
 use Rattle.std.proofs.lemmas.Bool.{and_parts}
+use Rattle.block_layout.specs.Place.{place_of}
 use Rattle.block_spec.specs.Bodies.{Body, seal_fault, sealed}
 use Rattle.block_spec.specs.declared.change.Change.{Change}
 use Rattle.block_spec.specs.declared.change.Change.TheVariants as change
@@ -24,8 +25,8 @@ use Rattle.event_spec.specs.declared.reply.WriteFault.{WriteFault}
 use Rattle.event_spec.specs.Effects.{CoreEvent, after_change, after_insert, after_judged, after_move, at_both, change_judged, changes_of, held_pairs, insert_judged, kept_places, places_moved, stale_in, with_place}
 use Rattle.event_spec.specs.Judged.{differences}
 use Rattle.event_spec.specs.Lawful.{Among}
-use Rattle.event_spec.specs.Parts.{Changes, CorePart, Parts, Shape, Name, ShardOf, nothing, names, part_named, changed, each_changed, same_name, shard_of, is_head, body_at}
-use Rattle.event_spec.specs.Replay.{opening_part}
+use Rattle.event_spec.specs.Parts.{Changes, CorePart, Parts, Shape, Name, ShardOf, nothing, names, part_named, changed, each_changed, same_name, shard_of, slots_of, is_head, body_at}
+use Rattle.event_spec.specs.Replay.{opening_part, opening_shard, places_from, rows_first}
 use Rattle.isolation_spec.specs.declared.read.Read.{Read}
 use Rattle.core_laws.proofs.Frames.Looks.{any_true, true_false}
 use Rattle.core_laws.specs.Frames.Laws.{ShardsKept, ShardsOpen}
@@ -276,9 +277,27 @@ bare_holds i = record {
   some = λ k is. no_entry k (finite.get (finite.empty {X = List ℕ} {R = int_cmp}) k) [] (get-empty int_cmp k) is;
 }
 
+-- A shard over rows has entries of its own keys alone, each with a candidate.
+rows_hold : (slots i at : ℕ) (rows : List Row) → ShardHolds i (finite.from_entries (filter (λ entry. shard_of entry.0 == i) (places_from slots at rows)))
+rows_hold slots i at [] = bare_holds i
+rows_hold slots i at (row ∷ rows) = go (shard_of (key_of row) == i) refl (rows_hold slots i (at + 1) rows)
+  where
+    place : ℕ
+    place = place_of (at / slots) (at % slots)
+
+    others : List (ℤ × List ℕ)
+    others = filter (λ entry. shard_of entry.0 == i) (places_from slots (at + 1) rows)
+
+    go : (own : Bool) → (shard_of (key_of row) == i) ≡ own → ShardHolds i (finite.from_entries others)
+        → ShardHolds i (finite.from_entries (cond (shard_of (key_of row) == i) ((key_of row, place ∷ []) ∷ others) others))
+    go true is rest =
+        subst (λ (own : Bool). ShardHolds i (finite.from_entries (cond own ((key_of row, place ∷ []) ∷ others) others))) (sym is)
+        (with_holds i (finite.from_entries others) (key_of row) (place ∷ []) rest (num (shard_of (key_of row)) i is))
+    go false is rest = subst (λ (own : Bool). ShardHolds i (finite.from_entries (cond own ((key_of row, place ∷ []) ∷ others) others))) (sym is) rest
+
 -- Those of the opening core are in order.
 pub shards_open : ShardsOpen
 shards_open sh t i places is =
     subst (ShardHolds i)
-    (shard_is (opening_part sh (ShardOf t i)) finite.empty places refl (opened_as (opening_part sh) (names sh) (ShardOf t i) (part.Shard places) is))
-    (bare_holds i)
+    (shard_is (opening_part sh (ShardOf t i)) (opening_shard (slots_of sh t) i (rows_first sh t)) places refl (opened_as (opening_part sh) (names sh) (ShardOf t i) (part.Shard places) is))
+    (rows_hold (slots_of sh t) i 0 (rows_first sh t))

@@ -95,4 +95,4 @@ answered_from sh (made ∷ log) s m shape ok f lawful =
 -- The replies of a lawful log to its sessions' commands are the machine's.
 pub replies_as_the_machine : RepliesAsTheMachine
 replies_as_the_machine sh log shape lawful =
-    answered_from sh log (opening sh) machine.opening shape (sound sh shape) (opening_follows sh shape) lawful
+    answered_from sh log (opening sh) (machine.opening_from sh.first) shape (sound sh shape) (opening_follows sh shape) lawful

@@ -1,8 +1,8 @@
 -- The opening core.
-use Rattle.std.proofs.Common.{◌≡◌, ◌⊎◌, ℕ, zero, suc, ◌-◌, ◌≤◌, ℤ, Bool, true, false, cond, not, ◌&&◌, ◌==◌, List, [], ◌∷◌, map, Option, None, Some, length, get_or, unwrap_or, refl, sym, ap, ◌∙◌, subst, arith}
+use Rattle.std.proofs.Common.{◌≡◌, ◌⊎◌, ℕ, zero, suc, ◌+◌, ◌-◌, ◌≤◌, ℤ, Bool, true, false, cond, not, ◌&&◌, ◌==◌, List, [], ◌∷◌, map, Option, None, Some, length, get_or, unwrap_or, refl, sym, ap, ◌∙◌, subst, arith}
 use mathlib.Core.Logic.{inl, inr}
 use Rattle.std.specs.Prelude.{All, filter, replicate}
-use Rattle.std.specs.List.{list_all}
+use Rattle.std.specs.List.{list_all, range_with_len}
 use Rattle.std.specs.Ordering.{int_cmp}
 use Rattle.std.specs.FinMap as finite
 use Rattle.std.proofs.lemmas.Bool.Decides.{nat_tests}
@@ -11,9 +11,10 @@ use Rattle.std.proofs.lemmas.List.Elements.{All-nil, All-cons}
 use Rattle.std.proofs.lemmas.Option.{none-some}
 use Rattle.std.proofs.lemmas.Bool.{and_from}
 use Rattle.block_layout.specs.Place.{block_of, slot_of}
+use Rattle.cell_model.specs.declared.column.Column.{Column}
 use Rattle.block_spec.specs.Bodies.{Body, is_empty, is_loose, slot_in, untouched}
 use Rattle.block_spec.specs.declared.change.Before.{Before}
-use Rattle.block_spec.specs.Slots.{Slot, bare, is_bare}
+use Rattle.block_spec.specs.Slots.{Row, Slot, bare, is_bare}
 use Rattle.core_laws.proofs.Events.Lists.{all_by}
 use Rattle.core_laws.proofs.Events.Naming.{body_named, desk_named, desk_there, each_kind, head_named, named_member, shard_there}
 use Rattle.core_laws.specs.Events.Named.{FollowsMachine}
@@ -23,10 +24,10 @@ use Rattle.event_spec.specs.Follows.{Follows}
 use Rattle.isolation_spec.specs.Order.{InOrder}
 use Rattle.event_spec.specs.Lawful.{Among, HasBlock, HasTable}
 use Rattle.event_spec.specs.Parts.{CorePart, Parts, Shape, Name, HeadOf, ShardOf, BodyOf, TheDesk, same_name, names, part_named, part_at, head_from, shard_from, body_from, desk_from, head_at, body_at, desk_at, slot_at, places_at, blocks_of, slots_of, below, shard_of}
-use Rattle.event_spec.specs.Replay.{columns_in, opening, opening_head, opening_part}
+use Rattle.event_spec.specs.Replay.{columns_in, opening, opening_body, opening_desk, opening_head, opening_part, opening_shard, rows_first}
 use Rattle.event_spec.specs.SlotSound.{IsOfSession, IsSoundSlot, VersionsFit}
 use Rattle.event_spec.specs.Sound.{BodyHolds, HeadHolds, IsOfKind, IsShape, Sound}
-use Rattle.isolation_spec.specs.Contents.{State, at_place, place_at, state_at}
+use Rattle.isolation_spec.specs.Contents.{History, State, at_place, place_at, rows_left, state_at}
 use Rattle.isolation_spec.specs.Machine as machine
 use Rattle.key_index.specs.Candidates.{candidates_of}
 use Rattle.core_laws.proofs.Sound.Kept.{filter_same, in_block}
@@ -92,10 +93,44 @@ sound_bare = record {
   sessions = All-nil IsOfSession;
 }
 
+-- slots without rows are bare ones
+no_rows_in : (at slots : ℕ) → map (λ (slot : ℕ). bare) (range_with_len at slots) ≡ replicate slots bare
+no_rows_in at zero = refl
+no_rows_in at (suc slots) = ap (λ (rest : List Slot). bare ∷ rest) (no_rows_in (at + 1) slots)
+
+-- A body over no rows is an untouched one.
+body_of_none : (columns : List Column) (slots block : ℕ) → opening_body columns slots [] block ≡ untouched columns slots
+body_of_none columns slots block = ap (λ (its : List Slot). record (untouched columns slots) { slots = its }) (no_rows_in 0 slots)
+
 -- Of an empty history each state is empty.
 empty_at : (state : ℕ) → state_at [] state ≡ []
 empty_at zero = refl
 empty_at (suc n) = refl
+
+-- ---- a core that begins with nothing
+
+module _ (sh : Shape) (none : sh.first ≡ []) where
+  -- it has no row
+  pub no_rows : (t : ℕ) → rows_first sh t ≡ []
+  no_rows t = ap (λ (first : History). rows_left first t) none
+
+  -- its heads stand before all slots
+  pub plain_head : (t : ℕ) → opening_head (blocks_of sh t) (slots_of sh t) (length (rows_first sh t)) ≡ opening_head (blocks_of sh t) (slots_of sh t) 0
+  plain_head t = ap (λ (rows : List Row). opening_head (blocks_of sh t) (slots_of sh t) (length rows)) (no_rows t)
+
+  -- its shards have no entry
+  pub plain_shard : (t i : ℕ) → opening_shard (slots_of sh t) i (rows_first sh t) ≡ finite.empty
+  plain_shard t i = ap (opening_shard (slots_of sh t) i) (no_rows t)
+
+  -- its bodies are untouched
+  pub plain_body : (t b : ℕ) → opening_body (columns_in sh t) (slots_of sh t) (rows_first sh t) b ≡ untouched (columns_in sh t) (slots_of sh t)
+  plain_body t b = ap (λ (rows : List Row). opening_body (columns_in sh t) (slots_of sh t) rows b) (no_rows t) ∙ body_of_none (columns_in sh t) (slots_of sh t) b
+
+  -- and its desk has numbered no commit
+  pub plain_desk : opening_desk sh.first sh.passes ≡ opening_desk [] sh.passes
+  plain_desk = ap (λ (first : History). opening_desk first sh.passes) none
+
+-- ---- the opening core
 
 module _ (sh : Shape) (shape : IsShape sh) where
   -- The opening core of the shape.
@@ -115,7 +150,10 @@ module _ (sh : Shape) (shape : IsShape sh) where
   slots t p = go (part_cases (BodyOf t (block_of p)))
     where
       go : (part_at sh s (BodyOf t (block_of p)) ≡ Some (opening_part sh (BodyOf t (block_of p)))) ⊎ (part_at sh s (BodyOf t (block_of p)) ≡ None) → slot_at sh s t p ≡ bare
-      go (inl is) = ap (λ o. slot_in (body_from o) (slot_of p)) is ∙ replicated (slots_of sh t) bare (slot_of p)
+      go (inl is) =
+          ap (λ o. slot_in (body_from o) (slot_of p)) is
+          ∙ ap (λ (x : Body). slot_in x (slot_of p)) (plain_body sh shape.none t (block_of p))
+          ∙ replicated (slots_of sh t) bare (slot_of p)
       go (inr is) = ap (λ o. slot_in (body_from o) (slot_of p)) is
 
   -- No key of the opening core has a candidate.
@@ -126,12 +164,15 @@ module _ (sh : Shape) (shape : IsShape sh) where
       none = ap (λ o. unwrap_or o []) (finite.get-empty int_cmp key)
 
       go : (part_at sh s (ShardOf t (shard_of key)) ≡ Some (opening_part sh (ShardOf t (shard_of key)))) ⊎ (part_at sh s (ShardOf t (shard_of key)) ≡ None) → places_at sh s t key ≡ []
-      go (inl is) = ap (λ o. candidates_of (shard_from o) key) is ∙ none
+      go (inl is) =
+          ap (λ o. candidates_of (shard_from o) key) is
+          ∙ ap (λ places. candidates_of places key) (plain_shard sh shape.none t (shard_of key))
+          ∙ none
       go (inr is) = ap (λ o. candidates_of (shard_from o) key) is ∙ none
 
   -- the desk at first
   abbrev pub new_desk : DeskState
-  new_desk = record { newest = 0; commits = 0; open_snapshots = replicate sh.passes None; wrote = replicate 16 0 }
+  new_desk = opening_desk sh.first sh.passes
 
   -- it is the desk of the opening core
   pub desk : desk_at sh s ≡ new_desk
@@ -150,7 +191,7 @@ module _ (sh : Shape) (shape : IsShape sh) where
   slot t p = bare
 
   -- Bare slots without candidates follow the machine before its first command.
-  follows_bare : Follows (λ t p. bare) (λ t key. []) new_desk machine.opening
+  follows_bare : Follows (λ t p. bare) (λ t key. []) (opening_desk [] sh.passes) machine.opening
   follows_bare = record {
     slots = λ t p. sound_bare;
     index = record {
@@ -186,22 +227,23 @@ module _ (sh : Shape) (shape : IsShape sh) where
     aged = λ t key one other x. absurd x;
   }
 
-  -- The slots, candidates and desk of the opening core follow the opening machine.
-  follows : Follows (slot_at sh s) (places_at sh s) (desk_at sh s) machine.opening
+  -- The slots, candidates and desk of the opening core follow the machine that begins as it does.
+  follows : Follows (slot_at sh s) (places_at sh s) (desk_at sh s) (machine.opening_from sh.first)
   follows =
-      subst (λ (x : ℕ → ℕ → Slot). Follows x (places_at sh s) (desk_at sh s) machine.opening) (λ i t p. sym (slots t p) i)
-      (subst (λ (x : ℕ → ℤ → List ℕ). Follows (λ t p. bare) x (desk_at sh s) machine.opening) (λ i t key. sym (places t key) i)
-      (subst (λ x. Follows (λ t p. bare) (λ t key. []) x machine.opening) (sym desk) follows_bare))
+      subst (λ (x : ℕ → ℕ → Slot). Follows x (places_at sh s) (desk_at sh s) (machine.opening_from sh.first)) (λ i t p. sym (slots t p) i)
+      (subst (λ (x : ℕ → ℤ → List ℕ). Follows (λ t p. bare) x (desk_at sh s) (machine.opening_from sh.first)) (λ i t key. sym (places t key) i)
+      (subst (λ x. Follows (λ t p. bare) (λ t key. []) x (machine.opening_from sh.first)) (sym desk)
+      (subst (λ (first : History). Follows (λ t p. bare) (λ t key. []) (opening_desk first sh.passes) (machine.opening_from first)) (sym shape.none) follows_bare)))
 
   -- ---- heads and bodies
 
   -- The body of a block in the opening core is untouched.
-  body : (t b : ℕ) → HasBlock sh t b → body_at sh s t b ≡ untouched (columns_in sh t) (slots_of sh t)
-  body t b has = ap body_from (part_there (opening_part sh) (names sh) (BodyOf t b) (body_named sh t b has))
+  pub body : (t b : ℕ) → HasBlock sh t b → body_at sh s t b ≡ untouched (columns_in sh t) (slots_of sh t)
+  body t b has = ap body_from (part_there (opening_part sh) (names sh) (BodyOf t b) (body_named sh t b has)) ∙ plain_body sh shape.none t b
 
   -- The head of a table in the opening core is one for its blocks.
-  head : (t : ℕ) → HasTable sh t → head_at sh s t ≡ opening_head (blocks_of sh t)
-  head t has = ap head_from (part_there (opening_part sh) (names sh) (HeadOf t) (head_named sh t has))
+  pub head : (t : ℕ) → HasTable sh t → head_at sh s t ≡ opening_head (blocks_of sh t) (slots_of sh t) 0
+  head t has = ap head_from (part_there (opening_part sh) (names sh) (HeadOf t) (head_named sh t has)) ∙ plain_head sh shape.none t
 
   -- An untouched body holds what is asked of a body.
   body_holds : (t : ℕ) → BodyHolds sh t (untouched (columns_in sh t) (slots_of sh t))
@@ -249,7 +291,7 @@ module _ (sh : Shape) (shape : IsShape sh) where
       kind TheDesk = tt
 
   -- it follows the machine before its first command
-  pub opening_follows : FollowsMachine sh (opening sh) machine.opening
+  pub opening_follows : FollowsMachine sh (opening sh) (machine.opening_from sh.first)
   opening_follows = record {
     kinds = each_kind sh s kinds_hold;
     desk = desk_there sh s kinds_hold;
@@ -260,7 +302,7 @@ module _ (sh : Shape) (shape : IsShape sh) where
   -- The opening core is sound.
   pub sound : Sound sh (opening sh)
   sound = record {
-    follows = (machine.opening, follows);
+    follows = (machine.opening_from sh.first, follows);
     count = length-map (names sh) (opening_part sh);
     kinds = kinds_hold;
     heads = head_holds;

@@ -45,7 +45,7 @@ IsAnsweredFrom shape parts before (made ∷ log) = (next : IsolationMachine)
 -- other events.
 abbrev pub RepliesAsTheMachine : Type 0
 RepliesAsTheMachine = (shape : Shape) (log : List Made) → IsShape shape → IsLawfulLog shape log
-    → IsAnsweredFrom shape (opening shape) machine.opening log
+    → IsAnsweredFrom shape (opening shape) (machine.opening_from shape.first) log
 
 -- ---- refusals of the core's own
 

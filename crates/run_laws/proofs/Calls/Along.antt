@@ -89,10 +89,10 @@ machines_go_along shape log is_shape lawful are = along
     shape
     (Rattle.event_spec.specs.Replay.opening shape)
     []
-    Rattle.isolation_spec.specs.Machine.opening
+    (Rattle.isolation_spec.specs.Machine.opening_from shape.first)
     log
     are
-    nothing_is_open
+    (nothing_is_open shape.first)
     (replies_as_the_machine shape (map (λ (entry : Logged). entry.made) log) is_shape lawful)
 
 -- ---- a session's events

@@ -425,7 +425,7 @@ others_more q front last apart =
 
 -- before the first event nothing is open
 pub nothing_is_open : NothingIsOpen
-nothing_is_open session = record { snapshot = refl; session_is = tt }
+nothing_is_open first session = record { snapshot = refl; session_is = tt }
 
 -- an event that the machine goes with leaves open in it what the sessions have
 pub opens_as : OpensAsTheMachine

@@ -89,6 +89,6 @@ numbers_are_narrow sh s made ok lawful is = go made.refused
     go true = is
     go false = subst IsNarrow (sym now) (event_narrow sh s made.event lawful is)
 
--- in the opening core the stamps are below 2 ^ 63, and the commits no more than they are
+-- in the opening core there is no stamp, and the commits are at most 2 ^ 63
 pub opens_narrow : OpensNarrow
-opens_narrow sh shape = subst IsNarrow (sym (desk sh shape)) (record { commits = omega arith; stamps = omega arith })
+opens_narrow sh shape = let few = shape.few in subst IsNarrow (sym (desk sh shape)) (record { commits = omega (arith, few); stamps = omega arith })

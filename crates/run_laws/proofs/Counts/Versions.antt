@@ -1,7 +1,7 @@
 -- What each event makes of the entries of all slots.
-use Rattle.std.proofs.Common.{◌≡◌, ◌≢◌, ℕ, zero, suc, ◌+◌, ◌*◌, ◌<◌, ◌^◌, ◌≤◌, Bool, true, false, cond, not, ◌&&◌, ◌==◌, List, [], ◌∷◌, fold, length, map, filter, replicate, Option, None, Some, is_none, is_some, unwrap_or, sum_by, refl, sym, ap, ◌∙◌, subst, arith}
+use Rattle.std.proofs.Common.{◌≡◌, ◌≢◌, ℕ, zero, suc, ◌+◌, ◌*◌, ◌<◌, ◌^◌, ◌≤◌, Bool, true, false, cond, not, ◌&&◌, ◌==◌, List, [], ◌∷◌, fold, length, map, filter, Option, None, Some, is_none, is_some, unwrap_or, sum_by, refl, sym, ap, ◌∙◌, subst, arith}
 use mathlib.Core.Logic.{inl, inr}
-use Rattle.std.specs.Prelude.{Result, Ok, Err, count_by, slice_index_or, slice_set}
+use Rattle.std.specs.Prelude.{Result, Ok, Err, count_by, slice_get, slice_index_or, slice_set}
 use Rattle.std.specs.List.{range_with_len}
 use Rattle.std.proofs.lemmas.Bool.Decides.{nat_tests}
 use Rattle.std.proofs.lemmas.List.Sums.{sum_by-cons}
@@ -26,7 +26,7 @@ use Rattle.event_spec.specs.Effects.{CoreEvent, after_change, after_commit, afte
 use Rattle.event_spec.specs.Judged.{differences}
 use Rattle.event_spec.specs.Lawful.{Among, HasBlock, IsLawful}
 use Rattle.event_spec.specs.Parts.{BodyOf, Changes, Parts, Shape, below, blocks_of, body_at, body_from, desk_at, each_changed, is_head, names, nothing, slot_at, slots_of, tables_of}
-use Rattle.event_spec.specs.Replay.{opening, opening_part}
+use Rattle.event_spec.specs.Replay.{opening, opening_part, rows_first}
 use Rattle.event_spec.specs.Replies.{reply_to, reply_to_write, reply_to_commit}
 use Rattle.event_spec.specs.Sound.{Sound}
 use Rattle.isolation_spec.specs.declared.read.Read.{Read}
@@ -651,15 +651,23 @@ versions_are_counted sh s made ok lawful = go made.refused
     go true = let none = memory_drops made.event in record { stamped = omega (arith, none); own = λ r. omega arith }
     go false = record { stamped = event_stamps sh s ok made.event lawful; own = λ r. event_owns sh s ok r made.event lawful }
 
--- Bare slots have no entry that passes a test.
-bare_none : (n : ℕ) (p : Undo Before → Bool) → sum_by (counts p) (replicate n bare) ≡ 0
-bare_none zero p = refl
-bare_none (suc n) p = let i = sum_by-cons (counts p) bare (replicate n bare) in let rest = bare_none n p in omega (arith, i, rest)
+-- A slot of this number at first: a row, or none, without entries.
+abbrev settled : (ℕ → Option Row) → ℕ → Slot
+settled row j = record { row = row j; entries = [] }
+
+-- Such slots have no entry that passes a test.
+settled_none : (row : ℕ → Option Row) (at n : ℕ) (p : Undo Before → Bool) → sum_by (counts p) (map (settled row) (range_with_len at n)) ≡ 0
+settled_none row at zero p = refl
+settled_none row at (suc n) p =
+    let i = sum_by-cons (counts p) (settled row at) (map (settled row) (range_with_len (at + 1) n)) in
+    let rest = settled_none row (at + 1) n p in
+    omega (arith, i, rest)
 
 -- in the opening core there is no entry with a stamp
 pub opens_without : OpensWithout
 opens_without sh shape = total_none sh (entries_at sh is_stamped (opening sh))
-    (λ t b has. ap (entries_in is_stamped) (ap body_from (part_there (opening_part sh) (names sh) (BodyOf t b) (body_named sh t b has))) ∙ bare_none (slots_of sh t) is_stamped)
+    (λ t b has. ap (entries_in is_stamped) (ap body_from (part_there (opening_part sh) (names sh) (BodyOf t b) (body_named sh t b has)))
+    ∙ settled_none (λ j. slice_get (rows_first sh t) (b * slots_of sh t + j)) 0 (slots_of sh t) is_stamped)
 
 -- Where each slot counts none, all of them do.
 each_slot : (g : Slot → ℕ) (slots : List Slot) → ((j : ℕ) → j < length slots → g (slice_index_or slots j bare) ≡ 0) → sum_by g slots ≡ 0

@@ -241,8 +241,8 @@ module _ (script : Script) (few_seats : script.sessions + script.workers < 2 ^ 3
   stands_none : (asked : Command) (told : Option Said) → told ≡ None → Stands asked told
   stands_none asked told is line tells = absurd (none_is line (sym is ∙ tells))
 
-  -- The count of commits is a number of 63 bits.
-  commits_few : (desk_at (shape_of script) parts).commits < 2 ^ 63
+  -- The count of commits is a number of 64 bits.
+  commits_few : (desk_at (shape_of script) parts).commits < 2 ^ 64
   commits_few = let c = held.narrow.commits in let n = held.narrow.stamps in omega (arith, c, n)
 
   -- What an insert tells may stand where it is due.
@@ -359,26 +359,27 @@ module _ (script : Script) (few_seats : script.sessions + script.workers < 2 ^ 3
       (omega (arith, inside, most), omega (arith, last, small))
 
   -- What a commit tells, refused or not, may stand where it is due.
-  commit_stands : (own : OwnTransaction) (reads : Option ReadSet) (told : Option Said) (stale : Option (Read × ℕ)) → ReadsAreKeys reads
+  commit_stands : (own : OwnTransaction) (reads : Option ReadSet) (told : Option Said) (stale : Option (Read × ℕ)) → IsLawful (shape_of script) (event.Commit own reads) parts → ReadsAreKeys reads
       → told ≡ line_to worker (told_by 0 0 (reply_to_commit (shape_of script) parts own stale))
       → IsStep (command_in (event.Commit own reads)) reads at (reply_to_commit (shape_of script) parts own stale) next
       → Stands command.Commit told
-  commit_stands own reads told (Some stale) keys tells step =
+  commit_stands own reads told (Some stale) lawful keys tells step =
       let names = stale_names at next reads own.session stale.0 stale.1 keys step in
       let small = names.small in
       let counted = held.follows.follows.desked.counted in
       let c = commits_few in
       stands command.Commit told (said.Stale (stale_of stale.0) stale.1) (tells ∙ not_silent worker (said.Stale (stale_of stale.0) stale.1) refl)
       (inl (names.keys, let w : stale.1 < 2 ^ 64 = omega (arith, small, counted, c) in w))
-  commit_stands own reads told None keys tells step = go (is_some_write own.writes) refl
+  commit_stands own reads told None lawful keys tells step = go (is_some_write own.writes) refl
     where
       go : (b : Bool) → is_some_write own.writes ≡ b → Stands command.Commit told
       go true e =
-          let c = commits_few in
+          let c = held.narrow.commits in
+          let stamp : (desk_at (shape_of script) parts).newest + 1 < 2 ^ 63 = lawful.1.0 in
           let number : ℕ = (desk_at (shape_of script) parts).commits + 1 in
           stands command.Commit told (said.Committed (Some number))
           (tells ∙ ap (λ b. line_to worker (Some (said.Committed (cond b (Some number) None)))) e ∙ not_silent worker (said.Committed (Some number)) refl)
-          (inl (let w : number < 2 ^ 64 = omega (arith, c) in w))
+          (inl (let w : number < 2 ^ 64 = omega (arith, c, stamp) in w))
       go false e = stands command.Commit told (said.Committed None)
           (tells ∙ ap (λ b. line_to worker (Some (said.Committed (cond b (Some ((desk_at (shape_of script) parts).commits + 1)) None)))) e ∙ not_silent worker (said.Committed None) refl)
           (inl tt)
@@ -411,7 +412,7 @@ module _ (script : Script) (few_seats : script.sessions + script.workers < 2 ^ 3
   event_stands is_shape few (event.Range own table low high) refused made asked told lawful memory step h q keys = absurd (true_false q)
   event_stands is_shape few (event.Commit own reads) true made asked told lawful memory step h q keys = absurd (true_false (sym (memory refl)))
   event_stands is_shape few (event.Commit own reads) false made asked told lawful memory step h q keys =
-      subst (λ a. Stands a told) (sym h.0) (commit_stands own reads told (stale_in (shape_of script) parts own reads) (keys h.0) h.1 step)
+      subst (λ a. Stands a told) (sym h.0) (commit_stands own reads told (stale_in (shape_of script) parts own reads) lawful (keys h.0) h.1 step)
   event_stands is_shape few (event.Abort own) true made asked told lawful memory step h q keys = absurd (true_false (sym (memory refl)))
   event_stands is_shape few (event.Abort own) false made asked told lawful memory step h q keys = stands asked told said.Aborted (h.1 ∙ not_silent worker said.Aborted refl) (subst (λ a. MayStand a said.Aborted) (sym h.0) (inl refl))
   event_stands is_shape few event.Oldest refused made asked told lawful memory step h q keys = absurd (true_false q)

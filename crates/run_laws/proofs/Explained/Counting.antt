@@ -27,11 +27,11 @@ use Rattle.event_spec.specs.declared.reply.WriteFault.{WriteFault}
 use Rattle.event_spec.specs.declared.reply.WriteFault.TheVariants as refusal
 use Rattle.event_spec.specs.Effects.{CoreEvent, change_judged, held_pairs, holds, insert_judged, stale_in}
 use Rattle.event_spec.specs.Lawful.{HasBlock, IsLawful, reads_handed}
-use Rattle.event_spec.specs.Parts.{Parts, blocks_of, body_at, is_head, slots_of}
+use Rattle.event_spec.specs.Parts.{Parts, Shape, blocks_of, body_at, is_head, slots_of}
 use Rattle.event_spec.specs.Plans.{BlockLook, gap_places, is_in_group, pair_of, pairs_of, plan_of, row_places}
 use Rattle.event_spec.specs.Replies.{reply_to, reply_to_commit, reply_to_image, reply_to_seal, reply_to_write}
 use Rattle.event_spec.specs.Sound.{IsShape}
-use Rattle.isolation_spec.specs.Contents.{key_of}
+use Rattle.isolation_spec.specs.Contents.{History, key_of, rows_left}
 use Rattle.isolation_spec.specs.Machine.{IsolationMachine}
 use Rattle.isolation_spec.specs.declared.read.Read.{Read}
 use Rattle.outcome_spec.specs.Entries.{Entry, shown_in}
@@ -39,7 +39,7 @@ use Rattle.outcome_spec.specs.Runs.{writes_committed_in}
 use Rattle.outcome_spec.specs.Forms.{is_worker}
 use Rattle.outcome_spec.specs.Tables.{blocks_at, slots_at}
 use Rattle.outcome_spec.specs.Upkeep.{capacity_at, freezes_in, inserts_in, moved_in, pruned_in, seals_in}
-use Rattle.timeline_spec.specs.Timeline.{Counts, FindsFull, FindsUnsealed}
+use Rattle.timeline_spec.specs.Timeline.{CountsFrom, FindsFull, FindsUnsealed}
 use Rattle.workload_spec.specs.declared.command.Command.{Command}
 use Rattle.workload_spec.specs.declared.command.Command.TheVariants as command
 use Rattle.workload_spec.specs.declared.reply.Said.{Said}
@@ -71,15 +71,15 @@ same_line a b e = cc
 -- ---- lines that say nothing of counts
 
 -- a line that says nothing of blocks or counts fits any lines in front
-pub plain_counts : (tables : List TableDecl) (lines : List Entry) (asked : Command) (line : Said) → is_plain line ≡ true → Counts tables lines asked line
-plain_counts tables lines asked (said.Freezing table block stamp) e = absurd (true_false (sym e))
-plain_counts tables lines asked (said.Sealed table block stamp) e = absurd (true_false (sym e))
-plain_counts tables lines asked (said.Frozen table block rows) e = absurd (true_false (sym e))
-plain_counts tables lines asked said.NotFrozen e = absurd (true_false (sym e))
-plain_counts tables lines asked (said.Moved count) e = absurd (true_false (sym e))
-plain_counts tables lines asked (said.Pruned count) e = absurd (true_false (sym e))
-plain_counts tables lines asked said.Full e = absurd (true_false (sym e))
-plain_counts tables lines asked _ e = tt
+pub plain_counts : (first : History) (tables : List TableDecl) (lines : List Entry) (asked : Command) (line : Said) → is_plain line ≡ true → CountsFrom first tables lines asked line
+plain_counts first tables lines asked (said.Freezing table block stamp) e = absurd (true_false (sym e))
+plain_counts first tables lines asked (said.Sealed table block stamp) e = absurd (true_false (sym e))
+plain_counts first tables lines asked (said.Frozen table block rows) e = absurd (true_false (sym e))
+plain_counts first tables lines asked said.NotFrozen e = absurd (true_false (sym e))
+plain_counts first tables lines asked (said.Moved count) e = absurd (true_false (sym e))
+plain_counts first tables lines asked (said.Pruned count) e = absurd (true_false (sym e))
+plain_counts first tables lines asked said.Full e = absurd (true_false (sym e))
+plain_counts first tables lines asked _ e = tt
 
 -- ---- a compaction moves 64 rows at most
 
@@ -151,16 +151,16 @@ row_filled slot e = go slot.row e
 -- ---- tables
 
 -- a table has as many blocks by the lines as by the shape
-pub blocks_same : (tables : List TableDecl) (n t : ℕ) → blocks_at tables t ≡ blocks_of (record { tables = tables; passes = n }) t
-blocks_same tables n t = go (slice_get tables t)
+pub blocks_same : (shape : Shape) (t : ℕ) → blocks_at shape.tables t ≡ blocks_of shape t
+blocks_same shape t = go (slice_get shape.tables t)
   where
     go : (o : Option TableDecl) → option_map_or (λ decl. decl.blocks) o 0 ≡ unwrap_or (option_map (λ (decl : TableDecl). decl.blocks) o) 0
     go None = refl
     go (Some decl) = refl
 
 -- and as many slots
-pub slots_same : (tables : List TableDecl) (n t : ℕ) → slots_at tables t ≡ slots_of (record { tables = tables; passes = n }) t
-slots_same tables n t = go (slice_get tables t)
+pub slots_same : (shape : Shape) (t : ℕ) → slots_at shape.tables t ≡ slots_of shape t
+slots_same shape t = go (slice_get shape.tables t)
   where
     go : (o : Option TableDecl) → option_map_or (λ decl. decl.slots) o 0 ≡ unwrap_or (option_map (λ (decl : TableDecl). decl.slots) o) 0
     go None = refl
@@ -172,16 +172,16 @@ module _ (script : Script) (parts : Parts) (front : List Occurrence) (at next : 
     (held : Holds script parts front at lines) (who : Who) where
   -- What the line that is told says of blocks and counts is what those in front say.
   abbrev Says : Command → Option Said → Type 0
-  Says asked told = (line : Said) → told ≡ Some line → Counts script.tables lines (command_told who asked) line
+  Says asked told = (line : Said) → told ≡ Some line → CountsFrom script.begun script.tables lines (command_told who asked) line
 
   -- A plain line that is told says nothing of blocks and counts.
   says_plain : (asked : Command) (told : Option Said) (here : Said) → told ≡ Some here → is_plain here ≡ true → Says asked told
   says_plain asked told here is plain line tells =
-      subst (Counts script.tables lines (command_told who asked)) (same_line here line (sym is ∙ tells)) (plain_counts script.tables lines (command_told who asked) here plain)
+      subst (CountsFrom script.begun script.tables lines (command_told who asked)) (same_line here line (sym is ∙ tells)) (plain_counts script.begun script.tables lines (command_told who asked) here plain)
 
   -- Where this line is told and fits those in front, what is told does.
-  says : (asked : Command) (told : Option Said) (here : Said) → told ≡ Some here → Counts script.tables lines (command_told who asked) here → Says asked told
-  says asked told here is counts line tells = subst (Counts script.tables lines (command_told who asked)) (same_line here line (sym is ∙ tells)) counts
+  says : (asked : Command) (told : Option Said) (here : Said) → told ≡ Some here → CountsFrom script.begun script.tables lines (command_told who asked) here → Says asked told
+  says asked told here is counts line tells = subst (CountsFrom script.begun script.tables lines (command_told who asked)) (same_line here line (sym is ∙ tells)) counts
 
   -- Where nothing is told, nothing is said of blocks and counts.
   says_none : (asked : Command) (told : Option Said) → told ≡ None → Says asked told
@@ -195,17 +195,17 @@ module _ (script : Script) (parts : Parts) (front : List Occurrence) (at next : 
   -- A line that is told quietly fits those in front where a pruning's count does.
   quiet_says : (asked : Command) (made : List Occurrence) (told : Option Said) → PruneCounts asked made → TellsQuietly asked made told → Says asked told
   quiet_says asked made told counts (line, is, inl plain) = says_plain asked told line is plain
-  quiet_says asked made told counts (line, is, inr (inl moved)) = says asked told line is (subst (Counts script.tables lines (command_told who asked)) (sym moved) (let few : 0 ≤ 64 = omega arith in few))
+  quiet_says asked made told counts (line, is, inr (inl moved)) = says asked told line is (subst (CountsFrom script.begun script.tables lines (command_told who asked)) (sym moved) (let few : 0 ≤ 64 = omega arith in few))
   quiet_says asked made told counts (line, is, inr (inr pruned)) =
-      says asked told line is (subst (Counts script.tables lines (command_told who asked)) (sym pruned.1) (counts pruned.0))
+      says asked told line is (subst (CountsFrom script.begun script.tables lines (command_told who asked)) (sym pruned.1) (counts pruned.0))
 
   -- an insert finds no room
   full_says : (own : OwnKey) (table : ℕ) (row : Row) (n : ℕ) → IsLawful (shape_of script) (event.Insert own table row) parts
       → reply_to (shape_of script) parts (event.Insert own table row) ≡ reply.Refused (refusal.Full n)
-      → Counts script.tables lines (command_told who (command.Insert table row)) said.Full
+      → CountsFrom script.begun script.tables lines (command_told who (command.Insert table row)) said.Full
   full_says own table row n lawful is = go (is_worker who)
     where
-      go : (b : Bool) → FindsFull script.tables lines (cond b command.Observe (command.Insert table row))
+      go : (b : Bool) → FindsFull script.begun script.tables lines (cond b command.Observe (command.Insert table row))
       go true = tt
       go false =
           let found = (full_exactly (shape_of script) parts own table row at n is_shape held.ok lawful held.follows).0 is in
@@ -213,14 +213,14 @@ module _ (script : Script) (parts : Parts) (front : List Occurrence) (at next : 
           let room = held.room table lawful.1.0 in
           let u = room.used_up in let i = room.inserts in
           let size : capacity_at script.tables table ≡ blocks_of (shape_of script) table * slots_of (shape_of script) table =
-          ap (λ n. n * slots_at script.tables table) (blocks_same script.tables (script.sessions + script.workers) table)
-          ∙ ap (λ n. blocks_of (shape_of script) table * n) (slots_same script.tables (script.sessions + script.workers) table) in
-          let least : capacity_at script.tables table ≤ inserts_in table lines = omega (arith, full, u, i, size) in
+          ap (λ n. n * slots_at script.tables table) (blocks_same (shape_of script) table)
+          ∙ ap (λ n. blocks_of (shape_of script) table * n) (slots_same (shape_of script) table) in
+          let least : capacity_at script.tables table ≤ length (rows_left script.begun table) + inserts_in table lines = omega (arith, full, u, i, size) in
           least
 
   -- a change finds its row's block sealed
   freezing_says : (table : ℕ) (key : ℤ) (asked : Command) (block stamp : ℕ) → IsSealedIn (shape_of script) parts table key block stamp
-      → Counts script.tables lines (command_told who asked) (said.Freezing table block stamp)
+      → CountsFrom script.begun script.tables lines (command_told who asked) (said.Freezing table block stamp)
   freezing_says table key asked block stamp found =
       let place = found.place in
       let row = current_row (Rattle.event_spec.specs.Parts.slot_at (shape_of script) parts table) (Rattle.event_spec.specs.Parts.places_at (shape_of script) parts table key) found.place found.current in
@@ -236,8 +236,8 @@ module _ (script : Script) (parts : Parts) (front : List Occurrence) (at next : 
   -- A write's line fits those in front where a full table and a freezing block do.
   write_says : (table : ℕ) (asked : Command) (told : Option Said) (worker refused : Bool) (r : Result ℕ WriteFault)
       → told ≡ line_to worker (told_by table 0 (cond refused reply.Memory (reply_to_write r)))
-      → ((n : ℕ) → r ≡ Err (refusal.Full n) → refused ≡ false → Counts script.tables lines (command_told who asked) said.Full)
-      → ((b g : ℕ) → r ≡ Err (refusal.Freezing b g) → refused ≡ false → Counts script.tables lines (command_told who asked) (said.Freezing table b g))
+      → ((n : ℕ) → r ≡ Err (refusal.Full n) → refused ≡ false → CountsFrom script.begun script.tables lines (command_told who asked) said.Full)
+      → ((b g : ℕ) → r ≡ Err (refusal.Freezing b g) → refused ≡ false → CountsFrom script.begun script.tables lines (command_told who asked) (said.Freezing table b g))
       → Says asked told
   write_says table asked told worker true r tells full freezing = says_plain asked told said.Memory (tells ∙ not_silent worker said.Memory refl) refl
   write_says table asked told worker false (Ok p) tells full freezing = says asked told said.Accepted (tells ∙ not_silent worker said.Accepted refl) tt
@@ -311,7 +311,7 @@ module _ (script : Script) (parts : Parts) (front : List Occurrence) (at next : 
           let is = (images_are_told (shape_of script) parts table block image held.ok has).granted rows granted in
           let p = (held.stamped table block has).phase in
           let one = is.0 in let few = is.2 in
-          let size = slots_same script.tables (script.sessions + script.workers) table in
+          let size = slots_same (shape_of script) table in
           says (command.Gather table block) told (said.Frozen table block rows)
           (tells ∙ ap (λ r. line_to (is_worker who) (told_by table block r)) granted ∙ not_silent (is_worker who) (said.Frozen table block rows) refl)
           (omega (arith, p, one), is.1, omega (arith, few, size))
@@ -348,7 +348,7 @@ module _ (script : Script) (parts : Parts) (front : List Occurrence) (at next : 
   event_says (event.Get own table key) refused made asked told lawful step counts h = quiet_says asked made told counts h
   event_says (event.Insert own table row) refused made asked told lawful step counts h =
       write_says table asked told (is_worker who) refused (insert_judged (shape_of script) parts own table (key_of row)) h.1
-      (λ n is granted. subst (λ c. Counts script.tables lines (command_told who c) said.Full) (sym h.0) (full_says own table row n lawful (ap reply_to_write is)))
+      (λ n is granted. subst (λ c. CountsFrom script.begun script.tables lines (command_told who c) said.Full) (sym h.0) (full_says own table row n lawful (ap reply_to_write is)))
       (λ b g is granted. absurd (never_freezing b g is granted))
     where
       never_freezing : (b g : ℕ) → insert_judged (shape_of script) parts own table (key_of row) ≡ Err (refusal.Freezing b g) → refused ≡ false → ⊥

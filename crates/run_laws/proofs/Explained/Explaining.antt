@@ -20,7 +20,7 @@ use Rattle.event_spec.specs.Effects.{CoreEvent, change_judged, insert_judged, is
 use Rattle.event_spec.specs.Parts.{Parts, Shape, below, blocks_of, body_at, desk_at, is_head}
 use Rattle.event_spec.specs.Replay.{IsLawfulFrom, after, opening}
 use Rattle.event_spec.specs.Replies.{reply_to, reply_to_commit, reply_to_image, reply_to_seal, reply_to_write}
-use Rattle.isolation_spec.specs.Contents.{key_of}
+use Rattle.isolation_spec.specs.Contents.{History, key_of}
 use Rattle.isolation_spec.specs.Machine.{IsolationMachine}
 use Rattle.isolation_spec.specs.Machine as machine
 use Rattle.isolation_spec.specs.declared.read.Read.{Read}
@@ -30,17 +30,19 @@ use Rattle.outcome_spec.specs.Forms.{Due, dues_of, is_seal_or_gather, is_silent,
 use Rattle.timeline_laws.proofs.Scripts.{run-explained}
 use Rattle.timeline_laws.proofs.Tests.{and-false}
 use Rattle.timeline_spec.specs.Forms.{AllMayStand, MayAnswer, MayStand}
+use Rattle.timeline_spec.specs.Printed.{printed_of}
+use Rattle.timeline_spec.specs.Timeline.{TimelineFrom}
 use Rattle.workload_spec.specs.declared.command.Command.{Command}
 use Rattle.workload_spec.specs.declared.command.Command.TheVariants as command
 use Rattle.workload_spec.specs.declared.reply.Said.{Said}
 use Rattle.workload_spec.specs.declared.reply.Said.TheVariants as said
 use Rattle.workload_spec.specs.declared.reply.Who.{Who}
 use Rattle.workload_spec.specs.declared.script.Script.{Script}
-use Rattle.workload_spec.specs.Valid.{have_own_names, is_table, is_valid, is_within, most_sessions, most_tables, most_turns, most_workers, has_version}
+use Rattle.workload_spec.specs.Valid.{have_own_names, is_table, is_within, most_sessions, most_tables, most_turns, most_workers, has_version}
 use Rattle.run_spec.specs.Asked.{at_all_blocks, at_blocks}
 use Rattle.run_spec.specs.Calls.{Call, line_to}
 use Rattle.run_spec.specs.Occurrences.{Logged, Occurrence, occurrence_of, occurrences_from}
-use Rattle.run_spec.specs.Ran.{Ran, RoundRun, Share, shape_of, told_in}
+use Rattle.run_spec.specs.Ran.{IsRunnable, Ran, RoundRun, Share, shape_of, told_in}
 use Rattle.run_spec.specs.Told.{cause_told, in_key_order, rows_told, stale_of, told_by}
 use Rattle.run_laws.proofs.Moments.Seats.{either, session_at}
 use Rattle.run_laws.proofs.Moments.Reads.{Reads, ReadsAt, ReadsAreKeys, runs_read}
@@ -61,7 +63,7 @@ use Rattle.run_laws.specs.Explained.Timelines.{PruningsFit, RunsAreExplained}
 use Rattle.run_laws.proofs.Explained.Answering.{event_stands}
 use Rattle.run_laws.proofs.Explained.Holding.{Holds, holds_first}
 use Rattle.run_laws.proofs.Explained.Ranging.{range_few}
-use Rattle.run_laws.proofs.Explained.Scripts.{few_tables, head, is_shape, worker_upkeep}
+use Rattle.run_laws.proofs.Explained.Scripts.{few_tables, head, worker_upkeep}
 use Rattle.run_laws.proofs.Explained.Shown.{write_line}
 use Rattle.run_laws.proofs.Explained.Standing.{may_stand}
 use Rattle.run_laws.proofs.Explained.Walk.{after_held, alone_ended, alone_held, ended, first_is, moved, no_event, onward, rest_is, runs_give_timelines, tells_at, told_something}
@@ -193,11 +195,11 @@ answered who call loud may number = go call.told refl
 
 -- ---- few blocks
 
-module _ (script : Script) (valid : is_valid script ≡ true) where
+module _ (script : Script) (valid : IsRunnable script) where
   -- The sessions and workers of a valid script are fewer than 32 bits can count.
   few_seats : script.sessions + script.workers < 2 ^ 32
   few_seats =
-      let h = head script valid in
+      let h = head script valid.valid in
       let a = and_first (has_version script && is_within 1 most_tables (length script.tables) && list_all is_table script.tables && have_own_names script.tables && is_within 1 most_sessions script.sessions && nat_le script.workers most_workers) (nat_le script.turns most_turns) h in
       let workers = and_second (has_version script && is_within 1 most_tables (length script.tables) && list_all is_table script.tables && have_own_names script.tables && is_within 1 most_sessions script.sessions) (nat_le script.workers most_workers) a in
       let b = and_first (has_version script && is_within 1 most_tables (length script.tables) && list_all is_table script.tables && have_own_names script.tables && is_within 1 most_sessions script.sessions) (nat_le script.workers most_workers) a in
@@ -208,13 +210,13 @@ module _ (script : Script) (valid : is_valid script ≡ true) where
 
   -- A table of a valid script has at most 1024 blocks.
   few_blocks : (t : ℕ) → blocks_of (shape_of script) t ≤ 1024
-  few_blocks t = Rattle.run_laws.proofs.Explained.Scripts.blocks_few script valid t
+  few_blocks t = Rattle.run_laws.proofs.Explained.Scripts.blocks_few script valid.valid t
 
   -- All blocks of a valid script are fewer than 32 bits can count.
   all_few : length (at_all_blocks (shape_of script) event.Observe) < 2 ^ 32
   all_few =
       let most = go 0 (length script.tables) in
-      let tables = few_tables script valid in
+      let tables = few_tables script valid.valid in
       omega (arith, most, tables)
     where
       go : (a n : ℕ) → length (flat_map (λ table. at_blocks (shape_of script) table (event.Observe table)) (range_with_len a n)) ≤ 1024 * n
@@ -229,7 +231,7 @@ module _ (script : Script) (valid : is_valid script ≡ true) where
 
 -- ---- all moments
 
-module _ (script : Script) (valid : is_valid script ≡ true) where
+module _ (script : Script) (valid : IsRunnable script) where
   -- The blocks of a table are fewer than 32 bits can count.
   few32 : (t : ℕ) → blocks_of (shape_of script) t < 2 ^ 32
   few32 t = let few = few_blocks script valid t in omega (arith, few)
@@ -266,7 +268,7 @@ module _ (script : Script) (valid : is_valid script ≡ true) where
   range_told_few parts front at next lines held own table low high made refused is lawful step = subst
       (λ made. length (in_key_order table (rows_told (cond refused reply.Memory (reply_to (shape_of script) parts made)))) < 2 ^ 64)
       (sym is)
-      (range_few (shape_of script) parts own table low high at next (is_shape script valid) held.ok (subst (λ made. IsLawful (shape_of script) made parts) is lawful) held.follows (few32 table) refused
+      (range_few (shape_of script) parts own table low high at next valid.shape held.ok (subst (λ made. IsLawful (shape_of script) made parts) is lawful) held.follows (few32 table) refused
       (subst (λ made. IsStep (command_in made) (reads_handed made) at (cond refused reply.Memory (reply_to (shape_of script) parts made)) next) is step))
 
   -- Behind whatever holds in front, each call that ends at these moments answers its due.
@@ -319,7 +321,7 @@ module _ (script : Script) (valid : is_valid script ≡ true) where
               done = ends.done;
               made = occurrence_of (shape_of script) parts entry;
               all = ends.made;
-              may = λ loud. event_stands script (few_seats script valid) parts front at next.0 lines held (is_worker (who_at script seat)) (is_shape script valid) few32 entry.made.event entry.made.refused
+              may = λ loud. event_stands script (few_seats script valid) parts front at next.0 lines held (is_worker (who_at script seat)) valid.shape few32 entry.made.event entry.made.refused
                   line.call.made line.call.command line.call.told lawful.0 lawful.1 next.1 tells loud
                   (handed_keys lines seat line.call entry.made.event ends.asked read
                   (last_hands (shape_of script) (is_worker (who_at script seat)) seat ends.began line.call ends.done (occurrence_of (shape_of script) parts entry) ends.is_call ends.made))
@@ -391,12 +393,12 @@ rounds_stand number (round ∷ rounds) each fit =
     (λ count a. fit count (among_right (Some (said.Pruned count)) (flat_map (λ (share : Share). map (λ (call : Call). call.told) share.calls) round.shares) (told_in rounds) a)))
 
 -- What is told in a run may stand as what is due.
-pub told_stands : (script : Script) (log : List Logged) (text : List ℕ) → is_valid script ≡ true → (ran : Ran script log text) → PruningsFit (told_in ran.rounds)
+pub told_stands : (script : Script) (log : List Logged) (text : List ℕ) → IsRunnable script → (ran : Ran script log text) → PruningsFit (told_in ran.rounds)
     → AllMayStand (dues_of script) (told_in ran.rounds)
 told_stands script log text valid ran fit =
     let moments = runs_have_moments script log text ran in
-    let each = all_answer script valid (moments_of script ran.rounds) (as_log ran.trace) (opening (shape_of script)) [] machine.opening []
-    (holds_first script (is_shape script valid)) (run_lawful script log text ran) (run_named script log text ran) moments.calls (runs_read script log text valid ran) moments.events in
+    let each = all_answer script valid (moments_of script ran.rounds) (as_log ran.trace) (opening (shape_of script)) [] (machine.opening_from script.begun) []
+    (holds_first script valid.shape) (run_lawful script log text ran) (run_named script log text ran) moments.calls (runs_read script log text valid.valid ran) moments.events in
     subst (λ dues. AllMayStand dues (told_in ran.rounds)) (sym (calls_answer script ran.rounds ran.asked))
     (rounds_stand 1 ran.rounds (each_call script log text ran AnswersIf each) fit)
 
@@ -404,5 +406,6 @@ told_stands script log text valid ran fit =
 pub runs_are_explained : RunsAreExplained
 runs_are_explained script log text valid ran fit =
     subst (Explained script) (sym ran.printed)
-    (run-explained script (told_in ran.rounds) (replies_at (moments_of script ran.rounds)) valid (told_stands script log text valid ran fit)
-    (runs_give_timelines script log text valid ran))
+    (run-explained script (told_in ran.rounds) (replies_at (moments_of script ran.rounds)) valid.valid valid.shape.none (told_stands script log text valid ran fit)
+    (subst (λ (first : History). TimelineFrom first script.tables (printed_of script (told_in ran.rounds)) (replies_at (moments_of script ran.rounds))) valid.shape.none
+    (runs_give_timelines script log text valid ran)))

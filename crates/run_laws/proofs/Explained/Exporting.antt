@@ -34,12 +34,12 @@ use Rattle.workload_spec.specs.declared.command.Command.TheVariants as command
 use Rattle.workload_spec.specs.declared.reply.Said.{Said}
 use Rattle.workload_spec.specs.declared.reply.Said.TheVariants as said
 use Rattle.workload_spec.specs.declared.script.Script.{Script}
-use Rattle.workload_spec.specs.Valid.{is_command, is_valid}
+use Rattle.workload_spec.specs.Valid.{is_command}
 use Rattle.run_spec.specs.Asked.{at_blocks, events_of}
 use Rattle.run_spec.specs.Calls.{Call, IsCall, IsCallBy, is_refused}
 use Rattle.run_spec.specs.Occurrences.{Occurrence, events_in, replies_in}
 use Rattle.run_spec.specs.Opened.{least_written, own_after}
-use Rattle.run_spec.specs.Ran.{shape_of}
+use Rattle.run_spec.specs.Ran.{IsRunnable, shape_of}
 use Rattle.run_spec.specs.Told.{is_shared, is_some_row, line_of, refusal_of, rows_told, summary_of}
 use Rattle.run_laws.specs.Calls.Coming.{is_single}
 use Rattle.run_laws.specs.Calls.Open.{OpenAs}
@@ -47,7 +47,7 @@ use Rattle.run_laws.proofs.Told.Splits.{heads, none_some, tails}
 use Rattle.run_laws.proofs.Moments.Seats.{either, session_at}
 use Rattle.run_laws.proofs.Explained.Counting.{blocks_same, slots_same}
 use Rattle.run_laws.proofs.Explained.Keys.{least_same, some_list}
-use Rattle.run_laws.proofs.Explained.Scripts.{is_shape, session_asked, worker_upkeep}
+use Rattle.run_laws.proofs.Explained.Scripts.{session_asked, worker_upkeep}
 use Rattle.run_laws.proofs.Explained.Shown.{shown}
 use Rattle.run_laws.proofs.Explained.Taking.{Ended, Scanned, has_table, none_open, one_open, owns_it, scanned, stand, stays}
 
@@ -231,7 +231,7 @@ replies_long (x ∷ made) = ap suc (replies_long made)
 
 -- ---- an export that ended
 
-module _ (script : Script) (valid : is_valid script ≡ true) (seat : ℕ) (parts : Parts) (front : List Occurrence) (at next : IsolationMachine) (call : Call)
+module _ (script : Script) (valid : IsRunnable script) (seat : ℕ) (parts : Parts) (front : List Occurrence) (at next : IsolationMachine) (call : Call)
     (ended : Ended script seat parts front at next call) (table : ℕ) (is : call.command ≡ command.Export table) where
   -- an export is asked of a session, not of a worker
   pub export_low : seat ≤ script.sessions
@@ -243,7 +243,7 @@ module _ (script : Script) (valid : is_valid script ≡ true) (seat : ℕ) (part
 
   -- The table that is exported is one of the script's.
   has : is_some (slice_get script.tables table) ≡ true
-  has = ap (is_command script.tables) (sym is) ∙ session_asked script valid seat call.command export_low ended.asked
+  has = ap (is_command script.tables) (sym is) ∙ session_asked script valid.valid seat call.command export_low ended.asked
 
   -- one that was made as a whole
   module _ (own : OwnTransaction) (mine : own_after ended.began ≡ Some own) (events : events_in call.made ≡ at_blocks (shape_of script) table (event.Read own table))
@@ -280,9 +280,9 @@ module _ (script : Script) (valid : is_valid script ≡ true) (seat : ℕ) (part
         ∙ length-map (below (blocks_of (shape_of script) table)) (event.Read own table) ∙ length-range_with_len 0 (blocks_of (shape_of script) table)
 
     -- its snapshot is one of a commit that there was
-    pub number_low : own.snapshot.number < 2 ^ 63
+    pub number_low : own.snapshot.number < 2 ^ 64
     number_low =
-        let low = (is_shape script valid).blocks table (has_table script.tables table has) in
+        let low = valid.shape.blocks table (has_table script.tables table has) in
         let open' = all_open (shape_of script) parts ended.ok own (owns_it script valid seat parts front at next call ended own table (omega (arith, low)) events) in
         let bound = (ended.follows.follows.desked.bounds own.session own.snapshot open'.counted open'.is_open).1 in
         let c = ended.narrow.commits in let n = ended.narrow.stamps in
@@ -298,7 +298,7 @@ module _ (script : Script) (valid : is_valid script ≡ true) (seat : ℕ) (part
         (ap (λ o. option_map (λ (t : OwnTransaction). keys_of t.writes) o) (sym mine) ∙ ended.keys.places ∙ ap (λ o. option_map (λ (t : Transaction). keys_of t.own) o) open') in
         let none : least_key table t.own ≡ None = sym (least_same table own t keys) ∙ clean in
         let all = rows_most (replies_in call.made) (slots_of (shape_of script) table) read_few in
-        let blocks = blocks_same script.tables (script.sessions + script.workers) table in
+        let blocks = blocks_same (shape_of script) table in
         let few = count_few has_rows (replies_in call.made) in
         let long = read_long in
         record {
@@ -311,11 +311,11 @@ module _ (script : Script) (valid : is_valid script ≡ true) (seat : ℕ) (part
               ∙ ap (λ (rows : List Row). length rows) (contents_same table t.own (state_at at.history t.snapshot) none);
           some_rows = rows_least (replies_in call.made);
           full_blocks = subst (λ n. length (flat_map rows_told (replies_in call.made)) ≤ count_by has_rows (replies_in call.made) * n)
-              (sym (slots_same script.tables (script.sessions + script.workers) table)) all;
+              (sym (slots_same (shape_of script) table)) all;
           blocks = omega (arith, few, long, blocks);
           images = images_few (replies_in call.made) read_some;
           were_frozen = subst (λ n. count_by is_shared (replies_in call.made) ≤ count_by (λ block. nat_lt 0 (freezes_in table block lines)) (range_with_len 0 n))
-              (sym (blocks_same script.tables (script.sessions + script.workers) table))
+              (sym (blocks_same (shape_of script) table))
               (frozen_few own table lines call.made (below (blocks_of (shape_of script) table)) events frozen);
         }
 

@@ -1,5 +1,5 @@
 -- What holds at each moment of a run, between its parts, its events and the lines in front.
-use Rattle.std.proofs.Common.{◌≡◌, ◌⊎◌, ℕ, ◌+◌, ◌≤◌, Bool, true, false, cond, List, [], ◌∷◌, ◌++◌, Option, None, Some, refl, sym, ap, ◌∙◌, subst, arith, append_assoc}
+use Rattle.std.proofs.Common.{◌≡◌, ◌⊎◌, ℕ, ◌+◌, ◌≤◌, Bool, true, false, cond, List, [], ◌∷◌, ◌++◌, Option, None, Some, refl, sym, ap, ◌∙◌, subst, arith, append_assoc, length}
 use mathlib.Core.Logic.{inl, inr}
 use Rattle.block_spec.specs.Bodies.{is_imaged, is_loose, is_sealed}
 use Rattle.block_spec.specs.declared.phase.Phase.{Phase}
@@ -8,7 +8,7 @@ use Rattle.store_laws.specs.Room.{inserted_by, used}
 use Rattle.run_laws.specs.Counts.Stamps.{imaged_by, sealed_by, sealed_now}
 use Rattle.run_laws.specs.Counts.Numbers.{IsNarrow}
 use Rattle.run_laws.proofs.Counts.Numbering.{numbers_are_narrow, opens_narrow}
-use Rattle.store_laws.proofs.Room.{opens_empty, room_is_counted}
+use Rattle.store_laws.proofs.Room.{opens_with_rows, room_is_counted}
 use Rattle.run_laws.proofs.Counts.Stamps.{opens_loose, stamps_are_counted}
 use Rattle.core_laws.proofs.Events.Lists.{split}
 use Rattle.core_laws.specs.Events.Laws.{IsStep, command_in}
@@ -18,7 +18,7 @@ use Rattle.event_spec.specs.declared.own.OwnTransaction.{OwnTransaction}
 use Rattle.event_spec.specs.declared.reply.Reply.TheVariants as reply
 use Rattle.event_spec.specs.Lawful.{Among, HasBlock, HasTable, IsLawful, reads_handed}
 use Rattle.event_spec.specs.Parts.{Parts, Shape, body_at, desk_at, head_at}
-use Rattle.event_spec.specs.Replay.{Made, after, opening, reply_after}
+use Rattle.event_spec.specs.Replay.{Made, after, opening, reply_after, rows_first}
 use Rattle.event_spec.specs.Replies.{reply_to}
 use Rattle.event_spec.specs.Sound.{IsShape, Sound}
 use Rattle.isolation_spec.specs.Machine.{IsolationMachine}
@@ -57,10 +57,10 @@ pub record Stamped (shape : Shape) (parts : Parts) (lines : List Entry) (t b : �
   pub phase : seals_in t b lines ≡ freezes_in t b lines + sealed_now (body_at shape parts t b)
   pub some : is_loose (body_at shape parts t b).phase ≡ false → 1 ≤ (body_at shape parts t b).last
 
--- a table's slots in use are no more than its lines of accepted inserts
+-- a table's slots in use are no more than its first rows and its lines of accepted inserts
 pub record HasRoom (shape : Shape) (parts : Parts) (lines : List Entry) (t : ℕ) : Type 0 where
   pub used_up : used shape parts t ≤ (head_at shape parts t).inserts
-  pub inserts : (head_at shape parts t).inserts ≤ inserts_in t lines
+  pub inserts : (head_at shape parts t).inserts ≤ length (rows_first shape t) + inserts_in t lines
 
 -- a block that was read as an image was frozen by a line in front
 abbrev pub WasFrozen : List Entry → Occurrence → Type 0
@@ -80,11 +80,11 @@ pub record Holds (script : Script) (parts : Parts) (front : List Occurrence) (at
   pub kept : Kept script parts front lines
 
 -- what holds at each moment holds before the first
-pub holds_first : (script : Script) → IsShape (shape_of script) → Holds script (opening (shape_of script)) [] machine.opening []
+pub holds_first : (script : Script) → IsShape (shape_of script) → Holds script (opening (shape_of script)) [] (machine.opening_from script.begun) []
 holds_first script is_shape = record {
   ok = sound (shape_of script) is_shape;
   follows = opening_follows (shape_of script) is_shape;
-  agrees = nothing_is_open;
+  agrees = nothing_is_open script.begun;
   replied = tt;
   reads = λ session began done is reads made among. absurd (none began done is made among);
   stamped = λ t b has. let o = opens_loose (shape_of script) t b is_shape has in record {
@@ -93,10 +93,11 @@ holds_first script is_shape = record {
     some = λ e. let never : true ≡ false = sym o.2 ∙ e in absurd (let no : ⊥ = cc in no);
   };
   frozen = λ made among. absurd among;
-  room = λ t has. let o = opens_empty (shape_of script) t is_shape has in let a = o.0 in let b = o.1 in record { used_up = omega (arith, a); inserts = omega (arith, b) };
+  room = λ t has. let o = opens_with_rows (shape_of script) t is_shape has in let a = o.0 in let b = o.1 in record { used_up = omega (arith, a, b); inserts = omega (arith, b) };
   narrow = opens_narrow (shape_of script) is_shape;
-  keys = no_keys;
-  kept = kept_first script machine.opening is_shape (sound (shape_of script) is_shape) (opening_follows (shape_of script) is_shape) nothing_is_open;
+  keys = no_keys script.begun;
+  kept = kept_first script (machine.opening_from script.begun) is_shape (sound (shape_of script) is_shape) (opening_follows (shape_of script) is_shape)
+      (nothing_is_open script.begun);
 }
   where
     none : (began done : List Occurrence) → [] ≡ began ++ done → (made : Occurrence) → Among made done → ⊥

@@ -24,7 +24,7 @@ use Rattle.event_spec.specs.Parts.{Parts, Shape}
 use Rattle.event_spec.specs.Replay.{reply_after}
 use Rattle.event_spec.specs.Replies.{CoreReply, reply_to, reply_to_commit, reply_to_write}
 use Rattle.core_laws.proofs.Following.Machines.{found_session, of-append-new, of-append-other, of-with_own, of-with_own-other, of-without, of-without-own}
-use Rattle.isolation_spec.specs.Contents.{PlaceMap, WriteSet, key_of, place_at, place_cmp, place_of}
+use Rattle.isolation_spec.specs.Contents.{History, PlaceMap, WriteSet, key_of, place_at, place_cmp, place_of}
 use Rattle.isolation_spec.specs.declared.read.Read.{Read}
 use Rattle.isolation_spec.specs.Reads.{ReadSet}
 use Rattle.isolation_spec.specs.Machine.{IsolationMachine, Transaction, commit, entered, refusal_of_change, refusal_of_insert, step, step_of, transaction_of, with_own, without, write}
@@ -587,8 +587,8 @@ abbrev pub KeysAgree : List Occurrence → IsolationMachine → Type 0
 KeysAgree front at = (session : ℕ) → SameKeys (own_after (under session front)) (transaction_of session at)
 
 -- at the start nothing is open, so nothing was written
-pub no_keys : KeysAgree [] machine.opening
-no_keys session = record { places = refl; fit = tt }
+pub no_keys : (first : History) → KeysAgree [] (machine.opening_from first)
+no_keys first session = record { places = refl; fit = tt }
 
 -- Two numbers are equal, or they are not.
 same_or_not : (a b : ℕ) → (a ≡ b) ⊎ (a ≢ b)

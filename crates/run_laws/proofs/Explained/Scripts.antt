@@ -5,6 +5,7 @@ use Rattle.std.specs.Prelude.{◌*◌, ◌/◌, ◌%◌, is_none, option_map, sl
 use Rattle.std.specs.List.{enumerate_from, flat_map, list_all, range_with_len}
 use Rattle.std.specs.Option.{option_map_or}
 use Rattle.std.proofs.lemmas.Bool.Decides.{nat_tests}
+use Rattle.std.proofs.lemmas.List.Elements.{All-nil}
 use Rattle.std.proofs.lemmas.List.Folds.{list_all-append}
 use Rattle.std.proofs.lemmas.Option.{slice_get_past}
 use Rattle.std.proofs.lemmas.Bool.{and_from}
@@ -22,7 +23,8 @@ use Rattle.event_spec.specs.Lawful.{Among, HasTable}
 use Rattle.event_spec.specs.Parts.{blocks_of, slots_of}
 use Rattle.event_spec.specs.Replies.{CoreReply}
 use Rattle.event_spec.specs.Sound.{IsShape}
-use Rattle.isolation_spec.specs.Contents.{key_of}
+use Rattle.isolation_spec.specs.Commits.{AreCommitsOf, IsCommitOf}
+use Rattle.isolation_spec.specs.Contents.{History, key_of, rows_left}
 use Rattle.outcome_spec.specs.Forms.{commands_of, is_upkeep, turn_of}
 use Rattle.workload_spec.specs.declared.command.Command.{Command}
 use Rattle.workload_spec.specs.declared.command.Command.TheVariants as command
@@ -158,9 +160,17 @@ module _ (script : Script) (valid : is_valid script ≡ true) where
       let f = and_second (nat_le 1 (length script.tables)) (nat_le (length script.tables) 16) (and_second (has_version script) (is_within 1 most_tables (length script.tables)) e) in
       grind (arith, nat_tests, f)
 
-  -- the tables of a valid workload are a shape
-  pub is_shape : IsShape (shape_of script)
-  is_shape = record { tables = few_tables; blocks = blocks; slots = slots }
+  -- the tables of a valid workload are a shape where it begins with nothing
+  pub is_shape : script.begun ≡ [] → IsShape (shape_of script)
+  is_shape none = record {
+    tables = few_tables;
+    blocks = blocks;
+    slots = slots;
+    commits = subst (AreCommitsOf script.tables) (sym none) (All-nil (IsCommitOf script.tables));
+    few = let long : length script.begun ≡ 0 = ap length none in omega (arith, long);
+    room = λ t has. let rows : length (rows_left script.begun t) ≡ 0 = ap (λ (first : History). length (rows_left first t)) none in omega (arith, rows);
+    none = none;
+  }
     where
       parts : (decl : TableDecl) → is_table decl ≡ true → (are_slots decl.schema decl.slots ≡ true) × (are_blocks decl.blocks ≡ true)
       parts decl is =

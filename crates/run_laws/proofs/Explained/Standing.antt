@@ -24,12 +24,12 @@ use Rattle.workload_spec.specs.declared.command.Command.TheVariants as command
 use Rattle.workload_spec.specs.declared.reply.Said.{Said}
 use Rattle.workload_spec.specs.declared.reply.Said.TheVariants as said
 use Rattle.workload_spec.specs.declared.script.Script.{Script}
-use Rattle.workload_spec.specs.Valid.{is_command, is_total, is_valid}
+use Rattle.workload_spec.specs.Valid.{is_command, is_total}
 use Rattle.run_spec.specs.Asked.{at_all_blocks, at_blocks, events_of}
 use Rattle.run_spec.specs.Calls.{Call, IsCallBy, IsWhole, line_to}
 use Rattle.run_spec.specs.Occurrences.{Occurrence, events_in, replies_in}
 use Rattle.run_spec.specs.Opened.{own_after, own_key}
-use Rattle.run_spec.specs.Ran.{shape_of}
+use Rattle.run_spec.specs.Ran.{IsRunnable, shape_of}
 use Rattle.run_spec.specs.Told.{dropped_told, in_key_order, is_shared, is_turned, line_of, moved_told, refusal_of, rows_told, summary_of, told_by, total_told}
 use Rattle.run_laws.specs.Calls.Upkeep.{AreReplied, IsReplied}
 use Rattle.run_laws.specs.Told.Laws.{is_quiet}
@@ -39,7 +39,7 @@ use Rattle.run_laws.specs.Moments.Moments.{who_at}
 use Rattle.run_laws.proofs.Moments.Seats.{either}
 use Rattle.run_laws.proofs.Explained.Answering.{memory_stands, refusal_stands}
 use Rattle.run_laws.proofs.Explained.Exporting.{count_few, export_low, has_rows, number_low, read_few, read_long, replies_long}
-use Rattle.run_laws.proofs.Explained.Scripts.{is_shape, session_asked, worker_upkeep}
+use Rattle.run_laws.proofs.Explained.Scripts.{session_asked, worker_upkeep}
 use Rattle.run_laws.proofs.Explained.Taking.{Ended, has_table, scanned, stand, total_named}
 use Rattle.run_laws.proofs.Explained.Totals.{numbers_few, sum_small, total_small}
 
@@ -122,7 +122,7 @@ pub record LastStands (call : Call) (line : Said) : Type 0 where
   pub may : is_quiet made.event ≡ false → MayStand call.command line
   pub few : (own : OwnTransaction) (table : ℕ) (low high : ℤ) → made.event ≡ event.Range own table low high → length (in_key_order table (rows_told made.reply)) < 2 ^ 64
 
-module _ (script : Script) (valid : is_valid script ≡ true) (seat : ℕ) (parts : Parts) (front : List Occurrence) (at next : IsolationMachine) (call : Call)
+module _ (script : Script) (valid : IsRunnable script) (seat : ℕ) (parts : Parts) (front : List Occurrence) (at next : IsolationMachine) (call : Call)
     (ended : Ended script seat parts front at next call)
     (fits : (count : ℕ) → call.told ≡ Some (said.Pruned count) → count < 2 ^ 64)
     (few_tables : length (at_all_blocks (shape_of script) event.Observe) < 2 ^ 32) (few_blocks : (t : ℕ) → blocks_of (shape_of script) t < 2 ^ 32) (line : Said) (tells : call.told ≡ Some line) (last : (call.made ≡ []) ⊎ LastStands call line) where
@@ -152,7 +152,7 @@ module _ (script : Script) (valid : is_valid script ≡ true) (seat : ℕ) (part
       let few = flat_stands (replies_in call.made) (slots_of (shape_of script) table) (λ y a. stood y a) in
       let long = replies_long call.made in
       let blocks : length (events_in call.made) ≡ blocks_of (shape_of script) table = ap (λ (es : List CoreEvent). length es) e ∙ length-map (below (blocks_of (shape_of script) table)) (event.Read t table) ∙ length-range_with_len 0 (blocks_of (shape_of script) table) in
-      let slots : slots_of (shape_of script) table ≤ 2 ^ 15 = ((is_shape script valid).slots table (has_table script.tables table has)).1 in
+      let slots : slots_of (shape_of script) table ≤ 2 ^ 15 = (valid.shape.slots table (has_table script.tables table has)).1 in
       let most = times_most (length (replies_in call.made)) (slots_of (shape_of script) table) (2 ^ 15) slots in
       let small = few_blocks table in
       let narrow : length (replies_in call.made) * 2 ^ 15 ≡ 2 ^ 15 * length (replies_in call.made) = grind arith in
@@ -205,7 +205,7 @@ module _ (script : Script) (valid : is_valid script ≡ true) (seat : ℕ) (part
       go (inr high) = absurd (no_worker high (ap Rattle.outcome_spec.specs.Forms.is_upkeep is))
       go (inl low) =
           let e : events_in call.made ≡ at_blocks (shape_of script) table (event.Read t table) = w.events ∙ ap (λ c. events_of (shape_of script) (Some t) call.reads seat c call.made) is in
-          let has : is_some (slice_get script.tables table) ≡ true = ap (is_command script.tables) (sym is) ∙ session_asked script valid seat call.command low ended.asked in
+          let has : is_some (slice_get script.tables table) ≡ true = ap (is_command script.tables) (sym is) ∙ session_asked script valid.valid seat call.command low ended.asked in
           let s = scanned script valid seat parts front at next call ended t table mine (ap Rattle.run_laws.specs.Calls.Coming.is_single is) has e w.granted in
           let few = all_few t table has e in
           let count = s.count in
@@ -239,7 +239,7 @@ module _ (script : Script) (valid : is_valid script ≡ true) (seat : ℕ) (part
       go (inr high) = absurd (no_worker high (ap Rattle.outcome_spec.specs.Forms.is_upkeep is))
       go (inl low) =
           let e : events_in call.made ≡ at_blocks (shape_of script) table (event.Read t table) = w.events ∙ ap (λ c. events_of (shape_of script) (Some t) call.reads seat c call.made) is in
-          let asked : is_total script.tables table column from to ≡ true = ap (is_command script.tables) (sym is) ∙ session_asked script valid seat call.command low ended.asked in
+          let asked : is_total script.tables table column from to ≡ true = ap (is_command script.tables) (sym is) ∙ session_asked script valid.valid seat call.command low ended.asked in
           let rows : List Rattle.block_spec.specs.Slots.Row = flat_map rows_told (replies_in call.made) in
           let few = all_few t table (total_named script.tables table column from to asked) e in
           let small = total_small script.tables table column from to asked in
@@ -287,11 +287,11 @@ module _ (script : Script) (valid : is_valid script ≡ true) (seat : ℕ) (part
   at_quiet (command.Export table) is (Some t) mine free w none =
       let e : events_in call.made ≡ at_blocks (shape_of script) table (event.Read t table) = w.events ∙ ap (λ c. events_of (shape_of script) (Some t) call.reads seat c call.made) is in
       let low = export_low script valid seat parts front at next call ended table is in
-      let has : is_some (slice_get script.tables table) ≡ true = ap (is_command script.tables) (sym is) ∙ session_asked script valid seat call.command low ended.asked in
+      let has : is_some (slice_get script.tables table) ≡ true = ap (is_command script.tables) (sym is) ∙ session_asked script valid.valid seat call.command low ended.asked in
       let number = number_low script valid seat parts front at next call ended table is t mine e w.granted in
       let rows = flat_stands (replies_in call.made) (slots_of (shape_of script) table) (read_few script valid seat parts front at next call ended table is t mine e w.granted) in
       let long = read_long script valid seat parts front at next call ended table is t mine e w.granted in
-      let slots : slots_of (shape_of script) table ≤ 2 ^ 15 = ((is_shape script valid).slots table (has_table script.tables table has)).1 in
+      let slots : slots_of (shape_of script) table ≤ 2 ^ 15 = (valid.shape.slots table (has_table script.tables table has)).1 in
       let most = times_most (length (replies_in call.made)) (slots_of (shape_of script) table) (2 ^ 15) slots in
       let small = few_blocks table in
       let narrow : length (replies_in call.made) * 2 ^ 15 ≡ 2 ^ 15 * length (replies_in call.made) = grind arith in

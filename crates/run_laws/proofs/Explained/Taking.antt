@@ -40,12 +40,12 @@ use Rattle.workload_spec.specs.declared.reply.Said.TheVariants as said
 use Rattle.workload_spec.specs.declared.reply.Who.{Who}
 use Rattle.workload_spec.specs.declared.reply.Who.TheVariants.{Session, Worker}
 use Rattle.workload_spec.specs.declared.script.Script.{Script}
-use Rattle.workload_spec.specs.Valid.{are_bounds_in, is_command, is_total, is_valid}
+use Rattle.workload_spec.specs.Valid.{are_bounds_in, is_command, is_total}
 use Rattle.run_spec.specs.Asked.{at_blocks, events_of}
 use Rattle.run_spec.specs.Calls.{Call, IsCall, IsCallBy, IsPart, IsWhole, is_refused}
 use Rattle.run_spec.specs.Occurrences.{Occurrence, events_in, replies_in, under}
 use Rattle.run_spec.specs.Opened.{own_after, own_behind}
-use Rattle.run_spec.specs.Ran.{shape_of}
+use Rattle.run_spec.specs.Ran.{IsRunnable, shape_of}
 use Rattle.run_spec.specs.Told.{in_key_order, line_of, refusal_of, rows_told}
 use Rattle.run_laws.proofs.Calls.Along.{and_first, and_second}
 use Rattle.run_laws.proofs.Calls.Asking.{others_ask_nothing}
@@ -67,7 +67,7 @@ use Rattle.run_laws.specs.Explained.Reads.{ReadsStandIn, Stands}
 use Rattle.store_laws.specs.Stretches.{reads_block}
 use Rattle.run_laws.proofs.Explained.Keys.{SameKeys, quiet_own}
 use Rattle.run_laws.proofs.Explained.Rereading.{read_together}
-use Rattle.run_laws.proofs.Explained.Scripts.{is_shape, session_asked, worker_upkeep}
+use Rattle.run_laws.proofs.Explained.Scripts.{session_asked, worker_upkeep}
 
 -- What is true is not false.
 true_false : true ≡ false → ⊥
@@ -171,7 +171,7 @@ total_named tables table column low high is = go (slice_get tables table) is
     go None is = absurd (true_false (sym is))
     go (Some decl) is = refl
 
-module _ (script : Script) (valid : is_valid script ≡ true) (seat : ℕ) (parts : Parts) (front : List Occurrence) (at next : IsolationMachine) (call : Call)
+module _ (script : Script) (valid : IsRunnable script) (seat : ℕ) (parts : Parts) (front : List Occurrence) (at next : IsolationMachine) (call : Call)
     (ended : Ended script seat parts front at next call) where
   -- a call that asks nothing of the machine leaves it as it is
   pub stays : is_single call.command ≡ false → next ≡ at
@@ -223,9 +223,9 @@ module _ (script : Script) (valid : is_valid script ≡ true) (seat : ℕ) (part
       let t = one_open seat at own (subst (λ o. OpenAs seat o (transaction_of seat at)) mine ended.open') in
       let t_next : transaction_of seat next ≡ Some t.0 = ap (transaction_of seat) (stays other) ∙ t.1 in
       let table_is = has_table script.tables table has in
-      let blocks = (is_shape script valid).blocks table table_is in
+      let blocks = valid.shape.blocks table table_is in
       let together = read_together (shape_of script) parts seat own table call.made (below (blocks_of (shape_of script) table)) e granted (stand own table (below (blocks_of (shape_of script) table)) e) in
-      let law = reads_are_the_scan (shape_of script) parts own table next t.0 (is_shape script valid) ended.ok
+      let law = reads_are_the_scan (shape_of script) parts own table next t.0 valid.shape ended.ok
       (owns_it own table (omega (arith, blocks)) e) ended.follows (ap (λ q. transaction_of q next) session ∙ t_next) in
       record {
         t = t.0;
@@ -305,7 +305,7 @@ module _ (script : Script) (valid : is_valid script ≡ true) (seat : ℕ) (part
         let e : events_in call.made ≡ at_blocks (shape_of script) table (event.Read own table) =
         w.events ∙ ap (λ c. events_of (shape_of script) (own_after ended.began) call.reads seat c call.made) is
         ∙ ap (λ o. events_of (shape_of script) o call.reads seat asked call.made) mine ∙ asks.events own call.reads call.made in
-        let has : is_some (slice_get script.tables table) ≡ true = asks.named (ap (is_command script.tables) (sym is) ∙ session_asked script valid seat call.command low ended.asked) in
+        let has : is_some (slice_get script.tables table) ≡ true = asks.named (ap (is_command script.tables) (sym is) ∙ session_asked script valid.valid seat call.command low ended.asked) in
         let s = scanned own table mine other has e w.granted in
         let once : length (flat_map rows_told (replies_in call.made)) ≡ length (in_key_order table (flat_map rows_told (replies_in call.made))) =
         s.count ∙ ap (λ (rows : List Row). length rows) (sym s.rows) in
@@ -403,7 +403,7 @@ upkeep_other (command.Gather table block) e = refl
 upkeep_other (command.Export table) e = refl
 
 -- A line of a call that ended comes about there.
-pub takes : (script : Script) (valid : is_valid script ≡ true) (seat : ℕ) (parts : Parts) (front : List Occurrence) (at next : IsolationMachine) (call : Call) (lines : List Entry) (entry : Entry)
+pub takes : (script : Script) (valid : IsRunnable script) (seat : ℕ) (parts : Parts) (front : List Occurrence) (at next : IsolationMachine) (call : Call) (lines : List Entry) (entry : Entry)
     → Ended script seat parts front at next call
     → call.told ≡ Some entry.reply.said → entry.reply.who ≡ who_at script seat → entry.command ≡ command_told (who_at script seat) call.command
     → (is_worker (who_at script seat) ≡ false → call.reads ≡ reads_after (thread (who_at script seat) lines))

@@ -23,18 +23,17 @@ use Rattle.outcome_spec.specs.Entries.{Entry, shown_in}
 use Rattle.outcome_spec.specs.Runs.{writes_committed_in}
 use Rattle.outcome_spec.specs.Forms.{is_upkeep, is_worker}
 use Rattle.outcome_spec.specs.Upkeep.{freezes_in, inserts_in, moved_in, pruned_in, rows_in}
-use Rattle.timeline_spec.specs.Timeline.{Counts, Runs, Takes}
+use Rattle.timeline_spec.specs.Timeline.{CountsFrom, RunsFrom, Takes}
 use Rattle.workload_spec.specs.declared.command.Command.{Command}
 use Rattle.workload_spec.specs.declared.command.Command.TheVariants as command
 use Rattle.workload_spec.specs.declared.reply.Said.{Said}
 use Rattle.workload_spec.specs.declared.reply.Said.TheVariants as said
 use Rattle.workload_spec.specs.declared.script.Script.{Script}
-use Rattle.workload_spec.specs.Valid.{is_valid}
 use Rattle.core_laws.proofs.Logs.Logs.{made_step}
 use Rattle.run_spec.specs.Calls.{Call, line_to}
 use Rattle.run_spec.specs.Occurrences.{Logged, Occurrence, events_in, occurrence_of, occurrences_from, replies_in, under}
 use Rattle.run_spec.specs.Opened.{own_after}
-use Rattle.run_spec.specs.Ran.{shape_of}
+use Rattle.run_spec.specs.Ran.{IsRunnable, shape_of}
 use Rattle.run_spec.specs.Told.{dropped_told, is_shared, stale_of, told_by}
 use Rattle.run_laws.proofs.Moments.Reads.{Reads, ReadsAt, runs_read}
 use Rattle.run_laws.proofs.Calls.Along.{and_first, and_second, named}
@@ -62,7 +61,7 @@ use Rattle.run_laws.proofs.Explained.Pruning.{Way, all_blocks, dropped_at, goes_
 use Rattle.run_laws.proofs.Explained.Holding.{AddsAt, Counted, Holds, ends_adds, ends_replied, ends_tells, freezes_with, holds_first, inserts_with, next_holds, same_holds, seals_with}
 use Rattle.run_laws.proofs.Explained.Exporting.{exports_by}
 use Rattle.run_laws.proofs.Explained.Keys.{KeysAgree, SameKeys, quiet_fits, quiet_stays}
-use Rattle.run_laws.proofs.Explained.Scripts.{event_key, is_shape, worker_upkeep}
+use Rattle.run_laws.proofs.Explained.Scripts.{event_key, worker_upkeep}
 use Rattle.run_laws.proofs.Explained.Shown.{Adds, accepted, plain_adds, quiet_none, shown, write_line}
 use Rattle.run_laws.proofs.Explained.Taking.{Ended, ends_at, front_quiet, own_same, takes}
 
@@ -163,14 +162,14 @@ inserts_rise t lines (Some entry) = let more = Rattle.run_laws.proofs.Explained.
 
 -- ---- one moment
 
-module _ (script : Script) (valid : is_valid script ≡ true) where
+module _ (script : Script) (valid : IsRunnable script) where
   -- a line and those behind it
   lines_on : (at next : IsolationMachine) (lines : List Entry) (printed : Option Entry) (moments : List Moment)
       → (printed ≡ None → next ≡ at)
-      → ((entry : Entry) → printed ≡ Some entry → Takes script.tables lines at entry next × Counts script.tables lines entry.command entry.reply.said)
-      → Runs script.tables (with_reply lines printed) next (replies_at moments)
-      → Runs script.tables lines at (cons_option printed (replies_at moments))
-  lines_on at next lines None moments stays comes rest = subst (λ m. Runs script.tables lines m (replies_at moments)) (stays refl) rest
+      → ((entry : Entry) → printed ≡ Some entry → Takes script.tables lines at entry next × CountsFrom script.begun script.tables lines entry.command entry.reply.said)
+      → RunsFrom script.begun script.tables (with_reply lines printed) next (replies_at moments)
+      → RunsFrom script.begun script.tables lines at (cons_option printed (replies_at moments))
+  lines_on at next lines None moments stays comes rest = subst (λ m. RunsFrom script.begun script.tables lines m (replies_at moments)) (stays refl) rest
   lines_on at next lines (Some entry) moments stays comes rest = let here = comes entry refl in (next, here.0, here.1, rest)
 
   -- What a session has open in front of quiet events the machine has open for it.
@@ -233,23 +232,23 @@ module _ (script : Script) (valid : is_valid script ≡ true) where
       keys = keys_same seat at front ends.began ends.done held.keys ends.behind (subst (λ xs. list_all is_quiet (events_in xs) ≡ true) (sym (ends.none refl)) refl);
     }
 
-    alone_counts : (asked : Command) (said' : Said) → (is_plain said' ≡ true) ⊎ (said' ≡ said.Moved 0) → Counts script.tables lines asked said'
-    alone_counts asked said' (inl e) = plain_counts script.tables lines asked said' e
-    alone_counts asked said' (inr e) = subst (Counts script.tables lines asked) (sym e) (let few : 0 ≤ 64 = omega arith in few)
+    alone_counts : (asked : Command) (said' : Said) → (is_plain said' ≡ true) ⊎ (said' ≡ said.Moved 0) → CountsFrom script.begun script.tables lines asked said'
+    alone_counts asked said' (inl e) = plain_counts script.begun script.tables lines asked said' e
+    alone_counts asked said' (inr e) = subst (CountsFrom script.begun script.tables lines asked) (sym e) (let few : 0 ≤ 64 = omega arith in few)
 
     same_said : (a b : Said) → Some a ≡ Some b → a ≡ b
     same_said a b e = cc
 
-    alone_comes : (is_worker (who_at script seat) ≡ false → Reads script lines seat line.call) → (entry : Entry) → line.printed ≡ Some entry → Takes script.tables lines at entry at × Counts script.tables lines entry.command entry.reply.said
+    alone_comes : (is_worker (who_at script seat) ≡ false → Reads script lines seat line.call) → (entry : Entry) → line.printed ≡ Some entry → Takes script.tables lines at entry at × CountsFrom script.begun script.tables lines entry.command entry.reply.said
     alone_comes read entry e =
         let is = is_said (who_at script seat) line.call line.printed entry ends.printed e in (
           takes script valid seat parts front at at line.call lines entry alone_ended is.0 is.1 is.2 (λ session. (read session).told)
               (λ table asked. exports_by script valid seat parts front at at line.call alone_ended table asked lines entry.reply.said is.0
               (λ o among. absurd (subst (Among o) none among))),
-          subst (Counts script.tables lines entry.command) (same_said plain.0 entry.reply.said (sym plain.1 ∙ is.0)) (alone_counts entry.command plain.0 plain.2),
+          subst (CountsFrom script.begun script.tables lines entry.command) (same_said plain.0 entry.reply.said (sym plain.1 ∙ is.0)) (alone_counts entry.command plain.0 plain.2),
         )
 
-    alone : (is_worker (who_at script seat) ≡ false → Reads script lines seat line.call) → (moments : List Moment) → Runs script.tables (with_reply lines line.printed) at (replies_at moments) → Runs script.tables lines at (cons_option line.printed (replies_at moments))
+    alone : (is_worker (who_at script seat) ≡ false → Reads script lines seat line.call) → (moments : List Moment) → RunsFrom script.begun script.tables (with_reply lines line.printed) at (replies_at moments) → RunsFrom script.begun script.tables lines at (cons_option line.printed (replies_at moments))
     alone read moments rest = lines_on at at lines line.printed moments (λ e. refl) (alone_comes read) rest
 
   -- a moment with an event
@@ -261,7 +260,7 @@ module _ (script : Script) (valid : is_valid script ≡ true) where
 
     -- an event is a step of the machine, and the parts go on following it
     pub moved : (next : IsolationMachine) × IsStep (command_in entry.made.event) (reads_handed entry.made.event) at (reply_after (shape_of script) parts entry.made) next × FollowsMachine (shape_of script) (after (shape_of script) parts entry.made) next
-    moved = made_step (shape_of script) parts entry.made at (is_shape script valid) held.ok held.follows lawful memory
+    moved = made_step (shape_of script) parts entry.made at valid.shape held.ok held.follows lawful memory
 
     low_session : 1 ≤ entry.session
     low_session = omega (arith, low, same)
@@ -274,7 +273,7 @@ module _ (script : Script) (valid : is_valid script ≡ true) where
         → (Holds script (after (shape_of script) parts entry.made) (front ++ occurrence_of (shape_of script) parts entry ∷ []) at lines)
     onward goes = subst (λ m. Holds script (after (shape_of script) parts entry.made) (front ++ occurrence_of (shape_of script) parts entry ∷ []) m lines)
         (quiet_stays at moved.0 entry.made.event (reply_after (shape_of script) parts entry.made) quiet moved.1)
-        (next_holds script parts front at moved.0 lines lines entry (is_shape script valid) lawful is_named (quiet_fits entry.made.event quiet) moved.1 moved.2 counted
+        (next_holds script parts front at moved.0 lines lines entry valid.shape lawful is_named (quiet_fits entry.made.event quiet) moved.1 moved.2 counted
         low_session high_session
         (brings_on script parts front lines entry.session entry.made.event (reply_after (shape_of script) parts entry.made) low_session held.kept quiet) held)
       where
@@ -346,8 +345,8 @@ module _ (script : Script) (valid : is_valid script ≡ true) where
 
       -- what holds at each moment holds behind one with an event
       pub after_held : Holds script (after (shape_of script) parts entry.made) (front ++ occurrence_of (shape_of script) parts entry ∷ []) moved.0 (with_reply lines line.printed)
-      after_held = next_holds script parts front at moved.0 lines (with_reply lines line.printed) entry (is_shape script valid) lawful is_named
-          (event_key script valid seat (is_worker (who_at script seat)) line.call.made entry.made.event (reply_after (shape_of script) parts entry.made) line.call.command line.call.told ends.asked
+      after_held = next_holds script parts front at moved.0 lines (with_reply lines line.printed) entry valid.shape lawful is_named
+          (event_key script valid.valid seat (is_worker (who_at script seat)) line.call.made entry.made.event (reply_after (shape_of script) parts entry.made) line.call.command line.call.told ends.asked
           (ends_tells script parts front lines seat entry line same held.replied ends))
           moved.1 moved.2 counted low_session high_session
           (subst (λ n. Brings script parts front lines (with_reply lines line.printed) n entry.made.event (reply_after (shape_of script) parts entry.made)) (sym same) brings) held
@@ -401,14 +400,14 @@ module _ (script : Script) (valid : is_valid script ≡ true) where
           behind [] made a = a
           behind (x ∷ began) made a = inr (behind began made a)
 
-      comes : (is_worker (who_at script seat) ≡ false → Reads script lines seat line.call) → (printed : Entry) → line.printed ≡ Some printed → Takes script.tables lines at printed moved.0 × Counts script.tables lines printed.command printed.reply.said
+      comes : (is_worker (who_at script seat) ≡ false → Reads script lines seat line.call) → (printed : Entry) → line.printed ≡ Some printed → Takes script.tables lines at printed moved.0 × CountsFrom script.begun script.tables lines printed.command printed.reply.said
       comes read printed e =
           let is = is_said (who_at script seat) line.call line.printed printed ends.printed e in (
             takes script valid seat (after (shape_of script) parts entry.made) (front ++ occurrence_of (shape_of script) parts entry ∷ []) at moved.0 line.call lines printed ended is.0 is.1 is.2 (λ session. (read session).told)
                 (λ table asked. exports_by script valid seat (after (shape_of script) parts entry.made) (front ++ occurrence_of (shape_of script) parts entry ∷ []) at moved.0 line.call ended table asked
                 lines printed.reply.said is.0 was_frozen),
-            subst (λ c. Counts script.tables lines c printed.reply.said) (sym is.2)
-                (event_says script parts front at moved.0 lines (is_shape script valid) held (who_at script seat) entry.made.event entry.made.refused line.call.made line.call.command line.call.told
+            subst (λ c. CountsFrom script.begun script.tables lines c printed.reply.said) (sym is.2)
+                (event_says script parts front at moved.0 lines valid.shape held (who_at script seat) entry.made.event entry.made.refused line.call.made line.call.command line.call.told
                 lawful moved.1 prune_counted tells_at printed.reply.said is.0),
           )
 
@@ -435,7 +434,7 @@ module _ (script : Script) (valid : is_valid script ≡ true) where
   On ms = (log : List Logged) (parts : Parts) (front : List Occurrence) (at : IsolationMachine) (lines : List Entry)
       → Holds script parts front at lines → IsLawfulFrom (shape_of script) parts (map (λ entry. entry.made) log) → are_named log ≡ true
       → AreMoments script front ms → ReadsAt script lines ms → events_at ms ≡ occurrences_from (shape_of script) parts log
-      → Runs script.tables lines at (replies_at ms)
+      → RunsFrom script.begun script.tables lines at (replies_at ms)
 
   -- With one moment in front of others, the replies still come about in their order.
   one : (seat : ℕ) → 1 ≤ seat → seat ≤ script.sessions + script.workers → (event : Option Occurrence) (line : Option Lined) (ms : List Moment) → On ms
@@ -445,7 +444,7 @@ module _ (script : Script) (valid : is_valid script ≡ true) where
       → IfSome line (λ line. is_worker (who_at script seat) ≡ false → Reads script lines seat line.call)
       → ReadsAt script (with_reply lines (option_and_then (λ (line : Lined). line.printed) line)) ms
       → cons_option event (events_at ms) ≡ occurrences_from (shape_of script) parts log
-      → Runs script.tables lines at (cons_option (option_and_then (λ (line : Lined). line.printed) line) (replies_at ms))
+      → RunsFrom script.begun script.tables lines at (cons_option (option_and_then (λ (line : Lined). line.printed) line) (replies_at ms))
   one seat low high None None ms on log parts front at lines held lawful are its stands rest read reads events = absurd stands
   one seat low high None (Some line) ms on log parts front at lines held lawful are its stands rest read reads events =
       alone parts front at lines seat low line held stands read ms
@@ -489,6 +488,6 @@ runs_give_timelines script log text valid ran =
     record {
       threads = moments.threads;
       order = moments.order;
-      runs = all_run script valid (moments_of script ran.rounds) (as_log ran.trace) (opening (shape_of script)) [] machine.opening []
-          (holds_first script (is_shape script valid)) (run_lawful script log text ran) (run_named script log text ran) moments.calls (runs_read script log text valid ran) moments.events;
+      runs = all_run script valid (moments_of script ran.rounds) (as_log ran.trace) (opening (shape_of script)) [] (machine.opening_from script.begun) []
+          (holds_first script valid.shape) (run_lawful script log text ran) (run_named script log text ran) moments.calls (runs_read script log text valid.valid ran) moments.events;
     }

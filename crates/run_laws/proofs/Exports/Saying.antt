@@ -21,7 +21,7 @@ use Rattle.event_spec.specs.Parts.{Parts, below, blocks_of, slots_of}
 use Rattle.run_laws.proofs.Explained.Counting.{blocks_same, slots_same}
 use Rattle.run_laws.proofs.Explained.Exporting.{export_low}
 use Rattle.run_laws.proofs.Explained.Keys.{least_same, some_list}
-use Rattle.run_laws.proofs.Explained.Scripts.{is_shape, session_asked}
+use Rattle.run_laws.proofs.Explained.Scripts.{session_asked}
 use Rattle.run_laws.proofs.Explained.Taking.{Ended, has_table, none_open, one_open, owns_it, stand, stays}
 use Rattle.run_laws.specs.Explained.Reads.{Stands}
 use Rattle.store_laws.specs.Stretches.{reads_block}
@@ -40,7 +40,7 @@ use Rattle.run_spec.specs.Asked.{at_blocks, events_of}
 use Rattle.run_spec.specs.Calls.{Call, IsCall, IsCallBy, IsPart, IsWhole, is_cut_short, is_final, is_refused}
 use Rattle.run_spec.specs.Occurrences.{Occurrence, events_in, replies_in}
 use Rattle.run_spec.specs.Opened.{least_written, own_after}
-use Rattle.run_spec.specs.Ran.{shape_of}
+use Rattle.run_spec.specs.Ran.{IsRunnable, shape_of}
 use Rattle.run_spec.specs.Told.{line_of, refusal_of, summary_of}
 use Rattle.stream_laws.proofs.Streams.{stream_is_read}
 use Rattle.stream_laws.specs.Laws.{IsBatch}
@@ -50,7 +50,7 @@ use Rattle.workload_spec.specs.declared.command.Command.TheVariants as command
 use Rattle.workload_spec.specs.declared.reply.Said.{Said}
 use Rattle.workload_spec.specs.declared.reply.Said.TheVariants as said
 use Rattle.workload_spec.specs.declared.script.Script.{Script}
-use Rattle.workload_spec.specs.Valid.{is_command, is_valid}
+use Rattle.workload_spec.specs.Valid.{is_command}
 use Rattle.run_laws.proofs.Exports.Groups.{groups_are, groups_fit, groups_read}
 use Rattle.run_laws.proofs.Exports.Streams.{front_is, groups_counted, rows_counted}
 use Rattle.run_laws.proofs.Exports.Tables.{are_told, columns_same}
@@ -130,20 +130,20 @@ alone slots rows some = record {
 
 -- ---- an export that ended
 
-module _ (script : Script) (valid : is_valid script ≡ true) (seat : ℕ) (parts : Parts) (front : List Occurrence) (at next : IsolationMachine) (call : Call)
+module _ (script : Script) (valid : IsRunnable script) (seat : ℕ) (parts : Parts) (front : List Occurrence) (at next : IsolationMachine) (call : Call)
     (ended : Ended script seat parts front at next call) (table : ℕ) (is : call.command ≡ command.Export table) (bytes : List ℕ) where
   -- The script has the table that the export names.
   has : is_some (slice_get script.tables table) ≡ true
   has = ap (is_command script.tables) (sym is)
-      ∙ session_asked script valid seat call.command (export_low script valid seat parts front at next call ended table is) ended.asked
+      ∙ session_asked script valid.valid seat call.command (export_low script valid seat parts front at next call ended table is) ended.asked
 
   -- A block of the table has at least one slot, and at most 32768 of them.
   slots : (1 ≤ slots_of (shape_of script) table) × (slots_of (shape_of script) table ≤ 2 ^ 15)
-  slots = (is_shape script valid).slots table (has_table script.tables table has)
+  slots = valid.shape.slots table (has_table script.tables table has)
 
   -- The table has at least one block.
   some_block : 1 ≤ blocks_of (shape_of script) table
-  some_block = (is_shape script valid).blocks table (has_table script.tables table has)
+  some_block = valid.shape.blocks table (has_table script.tables table has)
 
   -- The export leaves the machine as it was.
   keeps : next ≡ at
@@ -151,7 +151,7 @@ module _ (script : Script) (valid : is_valid script ≡ true) (seat : ℕ) (part
 
   -- The numbers of the table's blocks are as many as the script gives it.
   many : length (below (blocks_of (shape_of script) table)) ≡ blocks_at script.tables table
-  many = Rattle.std.proofs.lemmas.List.FromFn.length-range_with_len 0 (blocks_of (shape_of script) table) ∙ sym (blocks_same script.tables (script.sessions + script.workers) table)
+  many = Rattle.std.proofs.lemmas.List.FromFn.length-range_with_len 0 (blocks_of (shape_of script) table) ∙ sym (blocks_same (shape_of script) table)
 
   module _ (own : OwnTransaction) (mine : own_after ended.began ≡ Some own) (t : Transaction) (open' : transaction_of seat at ≡ Some t) (clean : least_written table own ≡ None) where
     is_open : transaction_of own.session next ≡ Some t
@@ -171,15 +171,15 @@ module _ (script : Script) (valid : is_valid script ≡ true) (seat : ℕ) (part
         → AreBatchesOf (slots_at script.tables table) (contents_of table (state_at at.history t.snapshot)) (groups_read (shape_of script) parts own table)
     grouped owns =
         subst (λ n. AreBatchesOf n (contents_of table (state_at at.history t.snapshot)) (groups_read (shape_of script) parts own table))
-        (sym (slots_same script.tables (script.sessions + script.workers) table))
+        (sym (slots_same (shape_of script) table))
         (subst (λ (m : IsolationMachine). AreBatchesOf (slots_of (shape_of script) table) (contents_of table (state_at m.history t.snapshot)) (groups_read (shape_of script) parts own table)) keeps
-        (groups_are (shape_of script) parts own table next t (is_shape script valid) ended.ok owns ended.follows is_open none))
+        (groups_are (shape_of script) parts own table next t valid.shape ended.ok owns ended.follows is_open none))
 
     read_back : OwnsAll (shape_of script) own parts
         → ReadsAs (stream_of (columns_at script.tables table) (groups_read (shape_of script) parts own table)) (columns_at script.tables table) (groups_read (shape_of script) parts own table)
-    read_back owns = stream_is_read (columns_at script.tables table) (groups_read (shape_of script) parts own table) (are_told script valid table has)
-        (subst (λ columns. All (IsBatch columns) (groups_read (shape_of script) parts own table)) (sym (columns_same script.tables (script.sessions + script.workers) table))
-        (groups_fit (shape_of script) parts own table next t (is_shape script valid) ended.ok owns ended.follows is_open slots.1))
+    read_back owns = stream_is_read (columns_at script.tables table) (groups_read (shape_of script) parts own table) (are_told script valid.valid table has)
+        (subst (λ columns. All (IsBatch columns) (groups_read (shape_of script) parts own table)) (sym (columns_same (shape_of script) table))
+        (groups_fit (shape_of script) parts own table next t valid.shape ended.ok owns ended.follows is_open slots.1))
 
     -- one that read all blocks
     whole : IsWhole (shape_of script) false seat (own_after ended.began) call → events_in call.made ≡ at_blocks (shape_of script) table (event.Read own table)
@@ -253,7 +253,7 @@ module _ (script : Script) (valid : is_valid script ≡ true) (seat : ℕ) (part
       rest = first_bytes.0;
       front = first_bytes.1;
       grouped = alone (slots_at script.tables table) (contents_of table (state_at at.history t.snapshot))
-          (let some = slots.0 in let same = slots_same script.tables (script.sessions + script.workers) table in omega (arith, some, same));
+          (let some = slots.0 in let same = slots_same (shape_of script) table in omega (arith, some, same));
     }
       where
         rows : List (List Row)
@@ -264,7 +264,7 @@ module _ (script : Script) (valid : is_valid script ≡ true) (seat : ℕ) (part
             (map (λ row. row ∷ []) (contents_of table (state_at at.history t.snapshot))) (map (λ row. row ∷ []) (contents_of table (state_at at.history t.snapshot)))
             (ap (λ made. groups_told made ++ map (λ row. row ∷ []) (contents_of table (state_at at.history t.snapshot))) none_made)
             (λ all.
-            let some = some_block in let same = blocks_same script.tables (script.sessions + script.workers) table in
+            let some = some_block in let same = blocks_same (shape_of script) table in
             let short : length call.made ≡ 0 = ap (λ (made : List Occurrence). length made) none_made in
             let count = all.0 in
             absurd (let never : ⊥ = omega (arith, some, same, short, count) in never)) sent

@@ -21,14 +21,14 @@ use Rattle.outcome_spec.specs.Tables.{blocks_at, columns_at}
 use Rattle.outcome_spec.specs.Upkeep.{exported_table}
 use Rattle.run_spec.specs.Calls.{Call}
 use Rattle.run_spec.specs.Occurrences.{Logged}
-use Rattle.run_spec.specs.Ran.{Agenda, Ran, RoundRun, Share, agenda_of, agendas_in, turns_of}
+use Rattle.run_spec.specs.Ran.{Agenda, IsRunnable, Ran, RoundRun, Share, agenda_of, agendas_in, turns_of}
 use Rattle.core_laws.proofs.Sound.Bodies.{true_false}
 use Rattle.workload_spec.specs.declared.command.Command.{Command}
 use Rattle.workload_spec.specs.declared.command.Command.TheVariants as command
 use Rattle.workload_spec.specs.declared.reply.Who.TheVariants.{Session, Worker}
 use Rattle.workload_spec.specs.declared.script.Line.{Line}
 use Rattle.workload_spec.specs.declared.script.Script.{Script}
-use Rattle.workload_spec.specs.Valid.{all_lines, has_head, is_export, is_line, is_valid}
+use Rattle.workload_spec.specs.Valid.{all_lines, has_head, is_export, is_line}
 
 -- ---- one behind the other
 
@@ -304,7 +304,7 @@ module _ (script : Script) where
       omega (arith, first, rest, asked, parts)
 
   module _
-      (log : List Logged) (text : List ℕ) (valid : is_valid script ≡ true)
+      (log : List Logged) (text : List ℕ) (valid : IsRunnable script)
       (ran : Ran script log text) where
     -- So at most one call of its run is one.
     one_export : count_by is_one (calls_in ran.rounds) ≤ 1
@@ -313,7 +313,7 @@ module _ (script : Script) where
         (has_head script && nat_lt 0 (length script.rounds)
         && list_all (is_line script) (all_lines script))
         (nat_le (count_by line_exports (all_lines script)) 1)
-        valid).1 in
+        valid.valid).1 in
         let lines : count_by line_exports (all_lines script) ≤ 1 = grind (arith, nat_tests, most) in
         let calls = rounds_count ran.rounds ∙ ap (sum_by exports_in) ran.asked in
         let few = rounds_few script.rounds (λ lines among. among) in

@@ -7,6 +7,7 @@ use Rattle.std.proofs.lemmas.Bool.{leb-true}
 use Rattle.cell_model.specs.declared.column.Column.{Column}
 use Rattle.cell_model.specs.declared.table.TableDecl.{TableDecl}
 use Rattle.cell_model.specs.Schemas.{begins_with_key, first_twins, most_columns}
+use Rattle.event_spec.specs.Parts.{Shape}
 use Rattle.event_spec.specs.Replay.{columns_in}
 use Rattle.run_laws.proofs.Explained.Scripts.{head}
 use Rattle.outcome_spec.specs.Tables.{columns_at}
@@ -49,8 +50,8 @@ columns_told table is =
     }
 
 -- a table's columns, as the core has them
-pub columns_same : (tables : List TableDecl) (n t : ℕ) → columns_at tables t ≡ columns_in (record { tables = tables; passes = n }) t
-columns_same tables n t = go (slice_get tables t)
+pub columns_same : (shape : Shape) (t : ℕ) → columns_at shape.tables t ≡ columns_in shape t
+columns_same shape t = go (slice_get shape.tables t)
   where
     go : (o : Option TableDecl) → option_map_or (λ decl. decl.schema) o [] ≡ unwrap_or (option_map (λ (decl : TableDecl). decl.schema) o) []
     go None = refl

@@ -20,10 +20,9 @@ use Rattle.workload_spec.specs.declared.reply.Said.TheVariants as said
 use Rattle.workload_spec.specs.declared.reply.Who.{Who}
 use Rattle.workload_spec.specs.declared.reply.Who.TheVariants.{Session}
 use Rattle.workload_spec.specs.declared.script.Script.{Script}
-use Rattle.workload_spec.specs.Valid.{is_valid}
 use Rattle.run_spec.specs.Calls.{Call}
 use Rattle.run_spec.specs.Occurrences.{Logged, Occurrence, occurrence_of, occurrences_from}
-use Rattle.run_spec.specs.Ran.{shape_of}
+use Rattle.run_spec.specs.Ran.{IsRunnable, shape_of}
 use Rattle.run_laws.proofs.Moments.Reads.{Reads, ReadsAt}
 use Rattle.run_laws.proofs.Calls.Along.{and_first, and_second, named}
 use Rattle.run_laws.specs.Calls.Along.{are_named}
@@ -78,7 +77,7 @@ seal_other command.Abort e = absurd (true_false (sym e))
 export_other : (asked : Command) (table : ℕ) → asked ≡ command.Export table → is_single asked ≡ false
 export_other asked table is = ap is_single is
 
-module _ (script : Script) (valid : is_valid script ≡ true) (printed timeline : List Entry) (t : Timeline script.tables printed timeline) (bytes : List ℕ) where
+module _ (script : Script) (valid : IsRunnable script) (printed timeline : List Entry) (t : Timeline script.tables printed timeline) (bytes : List ℕ) where
   -- the lines that are to come
   abbrev ToCome : List Entry → IsolationMachine → List Entry → Type 0
   ToCome lines at entries = Rest script.tables printed timeline t lines at entries

@@ -38,7 +38,7 @@ abbrev pub MachinesGoAlong : Type 0
 MachinesGoAlong = (shape : Shape) (log : List Logged) → IsShape shape
     → IsLawfulLog shape (map (λ entry. entry.made) log)
     → are_named log ≡ true
-    → GoesAlong shape (opening shape) [] machine.opening log
+    → GoesAlong shape (opening shape) [] (machine.opening_from shape.first) log
 
 -- The events of calls that go on from events of one session are of that session.
 abbrev pub CallsAreTheSessions : Type 0

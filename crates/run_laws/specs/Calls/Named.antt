@@ -12,4 +12,9 @@ use Rattle.run_laws.specs.Calls.Along.{GoesAlong}
 abbrev pub RunsGoAlong : Type 0
 RunsGoAlong = (script : Script) (log : List Logged) (text : List ℕ) → IsShape (shape_of script)
     → Ran script log text
-    → GoesAlong (shape_of script) (opening (shape_of script)) [] machine.opening log
+    → GoesAlong
+    (shape_of script)
+    (opening (shape_of script))
+    []
+    (machine.opening_from script.begun)
+    log

@@ -6,7 +6,8 @@ use Rattle.event_spec.specs.declared.own.OwnTransaction.{OwnTransaction}
 use Rattle.event_spec.specs.Lawful.{reads_handed, session_of}
 use Rattle.event_spec.specs.Parts.{Parts, Shape}
 use Rattle.event_spec.specs.Replay.{reply_after}
-use Rattle.isolation_spec.specs.Machine.{IsolationMachine, Transaction, opening, transaction_of}
+use Rattle.isolation_spec.specs.Contents.{History}
+use Rattle.isolation_spec.specs.Machine.{IsolationMachine, Transaction, opening_from, transaction_of}
 use Rattle.run_spec.specs.Occurrences.{Logged, Occurrence, occurrence_of, under}
 use Rattle.run_spec.specs.Opened.{own_after}
 
@@ -27,9 +28,9 @@ AgreesWith front machine =
     (session : ℕ)
     → OpenAs session (own_after (under session front)) (transaction_of session machine)
 
--- Before the first event nothing is open.
+-- Before the first event nothing is open, whatever the store began with.
 abbrev pub NothingIsOpen : Type 0
-NothingIsOpen = AgreesWith [] opening
+NothingIsOpen = (first : History) → AgreesWith [] (opening_from first)
 
 -- An event that the machine goes with keeps it.
 abbrev pub OpensAsTheMachine : Type 0

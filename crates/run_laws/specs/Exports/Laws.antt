@@ -1,5 +1,5 @@
 -- What an export sent, and what the printed lines of its run say of it.
-use Rattle.std.specs.Prelude.{◌≡◌, ℕ, true, false, List, [], ◌∷◌, ◌++◌}
+use Rattle.std.specs.Prelude.{◌≡◌, ℕ, false, List, [], ◌∷◌, ◌++◌}
 use Rattle.std.specs.List.{list_any}
 use Rattle.cell_model.specs.declared.table.TableDecl.{TableDecl}
 use Rattle.export_spec.specs.Calls.{CallSends, CallsSend, WereSent, calls_in}
@@ -8,14 +8,14 @@ use Rattle.run_laws.specs.Explained.Timelines.{PruningsFit}
 use Rattle.outcome_spec.specs.Explained.{run_in}
 use Rattle.run_spec.specs.Calls.{Call}
 use Rattle.run_spec.specs.Occurrences.{Logged}
-use Rattle.run_spec.specs.Ran.{Ran, told_in}
+use Rattle.run_spec.specs.Ran.{IsRunnable, Ran, told_in}
 use Rattle.workload_spec.specs.declared.script.Script.{Script}
-use Rattle.workload_spec.specs.Valid.{all_lines, is_export, is_valid}
+use Rattle.workload_spec.specs.Valid.{all_lines, is_export}
 
 -- In whatever order the sessions of a run went on, its printed lines say what its export sent.
 abbrev pub ExportsAreSaid : Type 0
 ExportsAreSaid = (script : Script) (log : List Logged) (text : List ℕ) (bytes : List ℕ)
-    → is_valid script ≡ true
+    → IsRunnable script
     → (ran : Ran script log text)
     → PruningsFit (told_in ran.rounds)
     → WereSent script.tables ran.rounds bytes
@@ -47,7 +47,7 @@ SendingsJoin = (tables : List TableDecl) (calls more : List Call) (sent bytes : 
 -- what this export sent, and the printed lines say it.
 abbrev pub RunsSayAllSent : Type 0
 RunsSayAllSent = (script : Script) (log : List Logged) (text : List ℕ) (bytes : List ℕ)
-    → is_valid script ≡ true
+    → IsRunnable script
     → (ran : Ran script log text)
     → PruningsFit (told_in ran.rounds)
     → CallsSend script.tables (calls_in ran.rounds) bytes

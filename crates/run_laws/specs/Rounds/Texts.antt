@@ -1,8 +1,7 @@
 -- The rounds that ran are a run of their workload, with the text of their lines.
-use Rattle.std.specs.Prelude.{◌≡◌, ℕ, ◌<◌, ◌^◌, true, List, [], map, None, Some, All}
+use Rattle.std.specs.Prelude.{◌≡◌, ℕ, ◌<◌, ◌^◌, List, [], map, None, Some, All}
 use Rattle.outcome_spec.specs.Explained.{Explained}
 use Rattle.timeline_spec.specs.Printed.{text_of}
-use Rattle.workload_spec.specs.Valid.{is_valid}
 use Rattle.workload_spec.specs.declared.reply.Said.TheVariants as said
 use Rattle.workload_spec.specs.declared.reply.Who.{Who}
 use Rattle.workload_spec.specs.declared.script.Line.{Line}
@@ -10,7 +9,8 @@ use Rattle.workload_spec.specs.declared.script.Script.{Script}
 use Rattle.run_laws.specs.Explained.Timelines.{PruningsFit}
 use Rattle.run_spec.specs.Calls.{Call, Kept}
 use Rattle.run_spec.specs.Occurrences.{Logged}
-use Rattle.run_spec.specs.Ran.{Ran, RoundRun, Share, agenda_of, agendas_in, calls_of, told_in}
+use Rattle.run_spec.specs.Ran.{IsRunnable, Ran, RoundRun, Share, agenda_of, agendas_in, calls_of}
+use Rattle.run_spec.specs.Ran.{told_in}
 use Rattle.run_laws.specs.Rounds.Fronts.{with_rounds}
 use Rattle.run_laws.specs.Rounds.Lines.{rounds_text}
 use Rattle.run_laws.specs.Rounds.Rounds.{RanSoFar}
@@ -51,7 +51,7 @@ CountsFit = (rounds : List RoundRun) → All AreCounted rounds → PruningsFit (
 abbrev pub RoundsAreExplained : Type 0
 RoundsAreExplained = (script : Script) (asked : List (List Line)) (rounds : List RoundRun)
     (finished : List Logged)
-    → is_valid (with_rounds asked script) ≡ true
+    → IsRunnable (with_rounds asked script)
     → RanSoFar script asked rounds finished
     → ((who : Who) → Kept None (calls_of who rounds))
     → All AreCounted rounds

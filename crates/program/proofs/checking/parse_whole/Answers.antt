@@ -1,6 +1,6 @@
-use Rattle.program.proofs.Judged.{valid_checked}
+use Rattle.program.proofs.Judged.{written_checked}
 use Rattle.program.proofs.checking.parse_whole.Goals as goal
 
-pub returns-clause-valid : goal.returns-clause-valid
-returns-clause-valid c =
-    valid_checked (λ x. (x.0, x.1.now)) c.args.bytes.now c.parse_checked.result c.parse_checked.ensures
+pub returns-clause-written : goal.returns-clause-written
+returns-clause-written c =
+    written_checked (λ x. (x.0, x.1.now)) c.args.bytes.now c.parse_checked.result c.parse_checked.ensures

@@ -26,7 +26,7 @@ pub loop-round-init : goal.loop-round-init
 loop-round-init g c = record {
   free = subst (λ (stations : List Station). AreFree 0 c.args.dispatcher.now.desks.now stations) (sym c.as_mut_slice-stations.ensures.value) c.requires.free;
   running = running_begins c.args.script.now.value c.args.dispatcher.now.store.now c.args.row.now (g.O.Sink.written c.args.out.now) (g.X.Sink.written c.args.outlet.now)
-      c.requires.valid c.requires.shape
+      c.requires.runnable c.requires.shape
       (subst (λ (crew : Crew). IsNewRow c.args.dispatcher.now.store.now (crew.sessions + crew.workers) c.args.row.now) c.requires.crew c.requires.row);
   split = c.into_iter-round-iterator.ensures.into_iter_gives.0 ∙ c.into_vec-round-items.ensures ∙ left_is c.args.left.now _ _ c.take_all.ensures c.requires.left;
   kept_out = refl;
@@ -47,17 +47,17 @@ run_round-requires-clause-some g c κs within =
 
 pub run_round-requires-clause-workers : goal.run_round-requires-clause-workers
 run_round-requires-clause-workers g c κs within =
-    subst (λ (crew : Crew). crew.workers ≤ 16) (sym c.requires.crew) (few_workers c.args.script.now.value c.requires.valid)
+    subst (λ (crew : Crew). crew.workers ≤ 16) (sym c.requires.crew) (few_workers c.args.script.now.value c.requires.runnable.valid)
 
 pub run_round-requires-clause-few : goal.run_round-requires-clause-few
 run_round-requires-clause-few g c κs within =
-    subst (λ (crew : Crew). crew.sessions ≤ 64) (sym c.requires.crew) (few_sessions c.args.script.now.value c.requires.valid)
+    subst (λ (crew : Crew). crew.sessions ≤ 64) (sym c.requires.crew) (few_sessions c.args.script.now.value c.requires.runnable.valid)
 
 pub run_round-requires-clause-one : goal.run_round-requires-clause-one
 run_round-requires-clause-one g c κs within =
     round_once c.args.script.now.value c.loop-round.yielded (into_iter_items c.next.new.self) c.in-Some.round
     (ap (λ (rounds : List (List Line)). c.loop-round.yielded ++ rounds) (sym c.in-Some.ensures.steps.0) ∙ c.loop-round.invariant.split)
-    c.requires.valid
+    c.requires.runnable
 
 pub run_round-requires-clause-turns : goal.run_round-requires-clause-turns
 run_round-requires-clause-turns g c κs within =
@@ -72,14 +72,14 @@ run_round-requires-clause-lines g c κs within =
     (round_within c.args.script.now.value c.args.dispatcher.now.store.now c.loop-round.row c.loop-round.yielded (into_iter_items c.next.new.self) c.in-Some.round
     c.loop-round.invariant.running.is
     (ap (λ (rounds : List (List Line)). c.loop-round.yielded ++ rounds) (sym c.in-Some.ensures.steps.0) ∙ c.loop-round.invariant.split)
-    c.requires.valid)
+    c.requires.runnable)
 
 pub run_round-requires-clause-commands : goal.run_round-requires-clause-commands
 run_round-requires-clause-commands g c κs within =
     round_served c.args.script.now.value c.args.dispatcher.now.store.now c.loop-round.row c.loop-round.yielded (into_iter_items c.next.new.self) c.in-Some.round
     c.loop-round.invariant.running.is
     (ap (λ (rounds : List (List Line)). c.loop-round.yielded ++ rounds) (sym c.in-Some.ensures.steps.0) ∙ c.loop-round.invariant.split)
-    c.requires.valid
+    c.requires.runnable
 
 pub run_round-requires-clause-room : goal.run_round-requires-clause-room
 run_round-requires-clause-room g c κs within =
@@ -123,7 +123,7 @@ returns-in_err-text-clause-part g c =
     c.args.script.now.value failed (g.O.Sink.written c.args.out.now) (g.O.Sink.written c.loop-round.out)))
     c.from_residual.result c.in_err-text.field-0.0 c.from_residual.ensures
     (running_stops c.args.script.now.value c.args.dispatcher.now.store.now c.loop-round.row c.run_round.new.row c.loop-round.yielded (into_iter_items c.next.new.self)
-    _ _ _ (g.X.Sink.written c.loop-round.outlet) (g.X.Sink.written c.run_round.new.outlet) c.loop-round.number c.in-Some.round c.requires.valid
+    _ _ _ (g.X.Sink.written c.loop-round.outlet) (g.X.Sink.written c.run_round.new.outlet) c.loop-round.number c.in-Some.round c.requires.runnable
     (ap (λ (rounds : List (List Line)). c.loop-round.yielded ++ rounds) (sym c.in-Some.ensures.steps.0) ∙ c.loop-round.invariant.split)
     c.loop-round.invariant.running c.in_err-text.field-0.0
     (subst (λ (crew : Crew). RoundStops c.args.dispatcher.now.store.now crew c.loop-round.row c.run_round.new.row c.in-Some.round
@@ -139,13 +139,13 @@ returns-in-Err-clause-part g c =
     (subst (λ text. RanRound c.args.dispatcher.now.store.now (c.loop-round.number + 1) c.args.crew c.loop-round.row c.run_round.new.row c.in-Some.round text
     (g.X.Sink.written c.loop-round.outlet) (g.X.Sink.written c.run_round.new.outlet))
     (sym c.as_slice.ensures.value) c.in_ok-text.ensures.whole))
-    (into_iter_items c.next.new.self) (g.O.Sink.written c.write_all.new.sink) c.requires.valid
+    (into_iter_items c.next.new.self) (g.O.Sink.written c.write_all.new.sink) c.requires.runnable
     (ap (λ (rounds : List (List Line)). c.loop-round.yielded ++ rounds) (sym c.in-Some.ensures.steps.0) ∙ c.loop-round.invariant.split)
     c.in-Err.ensures.bytes
 
 pub returns-clause-whole : goal.returns-clause-whole
 returns-clause-whole g c =
     running_ends c.args.script.now.value c.args.dispatcher.now.store.now c.loop-round.row c.loop-round.yielded _ _ _ _
-    c.loop-round.number c.requires.valid c.loop-round.invariant.running
+    c.loop-round.number c.requires.runnable c.loop-round.invariant.running
     (none_left c.loop-round.yielded (into_iter_items c.loop-round.round-iterator) c.args.script.now.value.rounds
     (omega (arith, c.in-None.ensures.steps.0, c.loop-round.round-iterator.rest.ok.0)) c.loop-round.invariant.split)

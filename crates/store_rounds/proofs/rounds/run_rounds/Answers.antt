@@ -5,6 +5,6 @@ use Rattle.store_rounds.proofs.rounds.run_rounds.Goals as goal
 
 pub desks_needed-requires : goal.desks_needed-requires
 desks_needed-requires g c =
-    let sessions = few_sessions c.args.script.now.value c.requires.valid in
-    let workers = few_workers c.args.script.now.value c.requires.valid in
+    let sessions = few_sessions c.args.script.now.value c.requires.runnable.valid in
+    let workers = few_workers c.args.script.now.value c.requires.runnable.valid in
     subst (λ (crew : Crew). crew.sessions + crew.workers ≤ 128) (sym c.requires.crew) (omega (arith, sessions, workers))

@@ -31,4 +31,4 @@ invariant_of-result c =
 pub returns : goal.returns
 returns c =
     let i = c.loop-block.invariant in
-    ap (λ blocks. record { block = 0; taken = 0; inserts = 0; empty = blocks }) (i.1 ∙ all_but_first c.args.blocks (c.loop-block.block - 1) (let most = i.3 in omega (arith, most)))
+    λ slots. ap (λ blocks. record { block = 0; taken = 0; inserts = 0; empty = blocks }) (i.1 ∙ all_but_first c.args.blocks (c.loop-block.block - 1) (let most = i.3 in omega (arith, most)))

@@ -1,6 +1,7 @@
 use Rattle.std.proofs.Common.{refl, sym, ap, subst, ◌∙◌}
 use mathlib.Core.Logic.{inr}
 use Rattle.core_parts.specs.Hands.{Has}
+use Rattle.engine_core.specs.Asks.{IsOfCore}
 use Rattle.event_spec.specs.Effects.{CoreEvent}
 use Rattle.event_spec.specs.Lawful.{IsImageOf}
 use Rattle.event_spec.specs.Parts.{BodyOf, Parts, Shape, body_at}
@@ -16,7 +17,7 @@ use Rattle.shared_store.specs.Freezing.{imaging}
 use Rattle.shared_store.specs.Making.{MakesHeld, MayMakeHeld}
 use Rattle.shared_store.specs.Store.{shape_in}
 use Rattle.shared_store.proofs.BlockReads.{holds_before}
-use Rattle.shared_store.proofs.Imagings.{has_body, image_is, may_image}
+use Rattle.shared_store.proofs.Imagings.{core_here, has_body, image_is, may_image}
 use Rattle.shared_store.proofs.store.Store.image_held.Goals as goal
 
 pub image_of-requires-clause-body : goal.image_of-requires-clause-body
@@ -27,6 +28,14 @@ image_of-requires-clause-body g c κs within =
     subst (λ (hand : Rattle.core_parts.specs.Hands.Held). Has c.shape-shape.result.now hand (BodyOf c.args.table c.args.block)) (sym c.hand.ensures)
     (subst (λ (sh : Shape). Has sh (first_of p.hands) (BodyOf c.args.table c.args.block)) (sym shape)
     (has_body st p.seat p.hands c.args.table c.args.block c.requires))
+
+pub image_of-requires-clause-core : goal.image_of-requires-clause-core
+image_of-requires-clause-core g c κs within =
+    let st = c.args.self.now in
+    let p = c.args.pass.now in
+    let shape = c.shape-shape.ensures ∙ c.self.invariant.shape ∙ ap shape_in c.self.view_is in
+    subst (λ (hand : Rattle.core_parts.specs.Hands.Held). IsOfCore c.shape-shape.result.now hand) (sym c.hand.ensures)
+    (subst (λ (sh : Shape). IsOfCore sh (first_of p.hands)) (sym shape) (core_here st p.seat p.hands c.args.table c.args.block c.requires))
 
 pub make_on-requires : goal.make_on-requires
 make_on-requires g c =

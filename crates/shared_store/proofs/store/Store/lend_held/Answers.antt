@@ -53,6 +53,18 @@ shared-requires-clause-body c =
     subst (λ hand. Has c.shape.result.now hand (BodyOf c.args.table c.args.block)) (sym (c.hand.ensures ∙ ap first_of c.try_enter.ensures.hand))
     (subst (λ (sh : Shape). Has sh (first_of s.hands) (BodyOf c.args.table c.args.block)) (sym (c.shape.ensures ∙ c.self.invariant.shape ∙ ap shape_in c.self.view_is)) has)
 
+pub shared-requires-clause-core : goal.shared-requires-clause-core
+shared-requires-clause-core c =
+    let st = c.args.self.now in
+    let s = c.args.pass.now in
+    let r = c.requires in
+    let parts = parts_seen (shape_in st) s.seat.me.0 in
+    let agrees = agrees_with st s.seat s.hands r.within.pass (one_hand st r.session s.seat s.hands r.own r.within) in (
+      parts,
+      subst (λ (sh : Shape). CoreHolds sh parts) (sym (c.shape.ensures ∙ c.self.invariant.shape ∙ ap shape_in c.self.view_is)) r.within.pass.of.1.sound,
+      subst (λ hand. Agrees hand parts) (sym (c.hand.ensures ∙ ap first_of c.try_enter.ensures.hand)) agrees,
+    )
+
 -- what is shared of the parts that the pass's log leaves
 pub unreachable-requires : goal.unreachable-requires
 unreachable-requires c =
