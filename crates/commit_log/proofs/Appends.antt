@@ -8,7 +8,7 @@ use Rattle.std.specs.List.{flat_map}
 use Rattle.cell_model.specs.declared.table.TableDecl.{TableDecl}
 use Rattle.disk_ports.specs.Crashes.{LeavesOnly}
 use Rattle.isolation_spec.specs.Contents.{History}
-use Rattle.log_spec.specs.Commits.{IsCommitOf}
+use Rattle.isolation_spec.specs.Commits.{IsCommitOf}
 use Rattle.log_spec.specs.LogText.{IsLogAt, payload_text}
 use Rattle.log_spec.specs.Reading.{IsGroupOf, IsLogOf}
 use Rattle.payload_log.specs.Logs.{IsBeforeOrAfter, StandsBy}

@@ -5,7 +5,7 @@ ghost use Rattle.std.specs.Option.{ForSome};
 ghost use Rattle.cell_model.specs.declared.table.TableDecl.{TableDecl};
 ghost use Rattle.disk_ports.specs.Crashes.{LeavesOnly};
 ghost use Rattle.isolation_spec.specs.Contents.{History};
-ghost use Rattle.log_spec.specs.Commits.{AreCommitsOf};
+ghost use Rattle.isolation_spec.specs.Commits.{AreCommitsOf};
 ghost use Rattle.log_spec.specs.LogText.{payload_text};
 ghost use Rattle.log_spec.specs.Reading.{IsGroupOf, IsNoLog};
 ghost use Rattle.payload_log.specs.Faults.{CountsDisk};

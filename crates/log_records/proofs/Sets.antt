@@ -9,7 +9,7 @@ use Rattle.cell_model.specs.declared.table.TableDecl.{TableDecl}
 use Rattle.isolation_spec.specs.Contents.{History, WriteSet}
 use Rattle.isolation_spec.specs.Order.{InOrder}
 use Rattle.isolation_spec.specs.declared.place.Place.{Place}
-use Rattle.log_spec.specs.Commits.{IsCommitOf, IsWriteOf}
+use Rattle.isolation_spec.specs.Commits.{IsCommitOf, IsWriteOf}
 use Rattle.log_spec.specs.LogText.{counted, payload_text, set_text, write_text}
 use Rattle.log_spec.specs.Reading.{IsGroupOf}
 use Rattle.log_spec.specs.Told.{IsKeyedWrite, IsToldCommit, IsToldWrite}

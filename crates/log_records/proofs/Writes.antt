@@ -9,7 +9,7 @@ use Rattle.cell_model.specs.declared.table.TableDecl.{TableDecl}
 use Rattle.cell_model.specs.Schemas.{IsSchema, begins_with_key}
 use Rattle.isolation_spec.specs.Contents.{place_at}
 use Rattle.isolation_spec.specs.declared.place.Place.{Place}
-use Rattle.log_spec.specs.Commits.{FitsPlace}
+use Rattle.isolation_spec.specs.Commits.{FitsPlace}
 use Rattle.log_spec.specs.LogText.{cell_text, left_text, write_text}
 use Rattle.log_spec.specs.Told.{IsKeyedWrite, IsToldRow, IsToldWrite}
 use Rattle.log_spec.proofs.Commits.{table_there}

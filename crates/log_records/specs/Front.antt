@@ -9,7 +9,7 @@ use Rattle.cell_model.specs.declared.column.Column.{Column}
 use Rattle.cell_model.specs.declared.table.TableDecl.{TableDecl}
 use Rattle.isolation_spec.specs.Contents.{WriteSet, place_cmp}
 use Rattle.isolation_spec.specs.declared.place.Place.{Place}
-use Rattle.log_spec.specs.Commits.{FitsPlace, IsCommitOf}
+use Rattle.isolation_spec.specs.Commits.{FitsPlace, IsCommitOf}
 use Rattle.log_spec.specs.LogText.{cell_text}
 use Rattle.log_spec.specs.Told.{IsKeyedCommit, IsTold, IsToldCommit, IsToldRow}
 

@@ -12,7 +12,7 @@ use Rattle.cell_model.specs.declared.table.TableDecl.{TableDecl}
 use Rattle.cell_model.specs.Schemas.{IsSchema, begins_with_key}
 use Rattle.isolation_spec.specs.Contents.{History, WriteSet, key_of}
 use Rattle.isolation_spec.specs.declared.place.Place.{Place}
-use Rattle.log_spec.specs.Commits.{FitsPlace, IsCommitOf, IsWriteOf}
+use Rattle.isolation_spec.specs.Commits.{FitsPlace, IsCommitOf, IsWriteOf}
 use Rattle.log_spec.specs.Laws.{HaveSchemas, OneGroup}
 use Rattle.log_spec.specs.LogText.{cell_text, left_text, payload_text, set_text, write_text}
 use Rattle.log_spec.specs.Reading.{IsGroupOf}

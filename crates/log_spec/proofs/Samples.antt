@@ -1,11 +1,10 @@
 -- The worked examples that do not follow by computing alone.
 use Rattle.std.proofs.Common.{◌≡◌, ℕ, ◌^◌, ◌<◌, ◌≤◌, List, [], ◌∷◌, ◌++◌, length, take, get_or, refl, sym, ◌∙◌, ap, subst, arith, rules, append_assoc, append-nil, length-append, inl, inr, drop, true, false}
-use Rattle.std.specs.Prelude.{pos, negsuc, unsigned_abs, All, IsSomeAnd, slice_get, Option, None, Some}
+use Rattle.std.specs.Prelude.{pos, All, IsSomeAnd, slice_get, Option, None, Some}
 use lib.Utf8.{encode}
 use Rattle.std.specs.Str.{chars, is_utf8}
 use Rattle.std.specs.List.{flat_map}
 use Rattle.std.specs.Int.{w32, to_le_bytes}
-use Rattle.std.specs.declared.cmp.Ordering.TheVariants.{Less}
 use Rattle.std.proofs.lemmas.List.{take_at}
 use Rattle.std.proofs.lemmas.List.Elements.{All-head, All-nil, All-from_recursion}
 use Rattle.cell_model.specs.declared.cell.Cell.{Cell}
@@ -14,9 +13,9 @@ use Rattle.cell_model.specs.Rows.{Fits}
 use Rattle.cell_model.specs.Examples.{narrow}
 use Rattle.cell_model.specs.Schemas.{IsName, IsSchema}
 use Rattle.log_spec.specs.Laws.{HaveSchemas}
-use Rattle.isolation_spec.specs.Contents.{History, WriteSet, place_at, place_cmp}
+use Rattle.isolation_spec.specs.Contents.{History, WriteSet}
 use Rattle.isolation_spec.specs.declared.place.Place.{Place}
-use Rattle.log_spec.specs.Commits.{FitsPlace, IsCommitOf, IsWriteOf}
+use Rattle.isolation_spec.specs.Commits.{FitsPlace, IsCommitOf, IsWriteOf}
 use Rattle.log_spec.specs.Examples as sample
 use Rattle.log_spec.specs.Examples.{gone, left, one_row, one_row_bytes, record_bytes, tables, text_row, truth_columns, truth_row, with_payload}
 use Rattle.log_spec.specs.LogText.{IsOpen, cell_text, payload_text, set_text, sized, write_text}
@@ -47,50 +46,8 @@ one_group = record {
   short = omega arith;
 }
 
-pub places_rise : sample.PlacesRise
-unfolding is_utf8 chars encode
-places_rise = record {
-  some = no_nil _ _;
-  rises = (
-    All-from_recursion (λ place. place_cmp (place_at 0 (negsuc 4)) place ≡ Less) (place_at 0 (pos 3) ∷ place_at 1 (negsuc 8) ∷ []) (refl, (refl, tt)),
-    (All-from_recursion (λ place. place_cmp (place_at 0 (pos 3)) place ≡ Less) (place_at 1 (negsuc 8) ∷ []) (refl, tt), (All-nil (λ place. place_cmp (place_at 1 (negsuc 8)) place ≡ Less), tt)),
-  );
-  each = All-from_recursion (IsWriteOf tables) (left 0 (text_row (negsuc 4)) ∷ gone 0 (pos 3) ∷ left 1 (truth_row (negsuc 8)) ∷ []) (
-    record { key = refl; row = record { cells = refl; key = refl } },
-    (record { key = refl; row = tt }, (record { key = refl; row = record { cells = refl; key = refl } }, tt)),
-  );
-}
-
--- the second place of a commit is above the first
-second_above : (a b : Place × Option (List Cell)) → IsCommitOf tables (a ∷ b ∷ []) → place_cmp a.0 b.0 ≡ Less
-second_above a b is = All-head (λ place. place_cmp a.0 place ≡ Less) b.0 [] is.rises.0
-
 first_write : (a : Place × Option (List Cell)) → IsCommitOf tables (a ∷ []) → IsWriteOf tables a
 first_write a is = All-head (IsWriteOf tables) a [] is.each
-
-pub falling_keys : sample.FallingKeys
-falling_keys is = let less = second_above (gone 0 (pos 3)) (gone 0 (negsuc 4)) is in cc
-
-pub falling_tables : sample.FallingTables
-falling_tables is = let less = second_above (gone 1 (pos 3)) (gone 0 (pos 4)) is in cc
-
-pub one_place_twice : sample.OnePlaceTwice
-one_place_twice is = let less = second_above (gone 0 (pos 3)) (gone 0 (pos 3)) is in cc
-
-pub no_third_table : sample.NoThirdTable
-no_third_table is = absurd (first_write (gone 2 (pos 3)) is).row
-
-pub key_of_65_bits : sample.KeyOf65Bits
-key_of_65_bits is = let fits = (first_write (gone 0 (pos (2 ^ 63))) is).key in cc
-
-pub row_of_another_key : sample.RowOfAnotherKey
-row_of_another_key is =
-    let same = (first_write (place_at 0 (pos 3), Some (text_row (pos 4))) is).row.key in
-    let key : ◌≡◌ {A = ℕ} 4 3 = ap unsigned_abs same in
-    absurd (omega (arith, key))
-
-pub row_of_another_table : sample.RowOfAnotherTable
-row_of_another_table is = let fits = (first_write (left 0 (truth_row (pos 3))) is).row.cells in cc
 
 pub too_many_tables : sample.TooManyTables
 too_many_tables is = let few = is.few in absurd (omega (arith, few))

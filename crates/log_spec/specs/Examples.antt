@@ -1,5 +1,5 @@
 -- Worked examples of logs and of bytes that are none, as facts.
-use Rattle.std.specs.Prelude.{◌≡◌, ℕ, ◌^◌, true, false, List, [], ◌∷◌, ◌++◌, ℤ, pos, negsuc, codes}
+use Rattle.std.specs.Prelude.{◌≡◌, ℕ, true, false, List, [], ◌∷◌, ◌++◌, ℤ, pos, negsuc, codes}
 use Rattle.std.specs.Prelude.{replicate, take, Option, None, Some}
 use Rattle.cell_model.specs.Examples.{column, key, narrow}
 use Rattle.cell_model.specs.declared.cell.Cell.{Cell}
@@ -9,7 +9,6 @@ use Rattle.cell_model.specs.declared.kind.Kind.TheVariants as kind
 use Rattle.cell_model.specs.declared.table.TableDecl.{TableDecl}
 use Rattle.isolation_spec.specs.Contents.{History, place_at, place_of}
 use Rattle.isolation_spec.specs.declared.place.Place.{Place}
-use Rattle.log_spec.specs.Commits.{IsCommitOf}
 use Rattle.log_spec.specs.LogText.{IsLogAt, payload_text, sized}
 use Rattle.log_spec.specs.Reading.{IsGroupOf, IsNoLog}
 
@@ -79,36 +78,6 @@ NoRecords = IsLogAt [] 8 (codes "MAINLOG1" ++ 0 ∷ 7 ∷ 7 ∷ [])
 abbrev pub TwoRecords : Type 0
 TwoRecords = IsLogAt (one_row_bytes ∷ one_row_bytes ∷ []) 66
     (codes "MAINLOG1" ++ (record_bytes 1 ++ (record_bytes 7 ++ 0 ∷ record_bytes 1)))
-
--- ---- commits of the tables
-
-abbrev pub PlacesRise : Type 0
-PlacesRise = IsCommitOf tables
-    (left 0 (text_row (negsuc 4)) ∷ gone 0 (pos 3) ∷ left 1 (truth_row (negsuc 8)) ∷ [])
-
-abbrev pub NothingIsNoCommit : Type 0
-NothingIsNoCommit = ¬ IsCommitOf tables []
-
-abbrev pub FallingKeys : Type 0
-FallingKeys = ¬ IsCommitOf tables (gone 0 (pos 3) ∷ gone 0 (negsuc 4) ∷ [])
-
-abbrev pub FallingTables : Type 0
-FallingTables = ¬ IsCommitOf tables (gone 1 (pos 3) ∷ gone 0 (pos 4) ∷ [])
-
-abbrev pub OnePlaceTwice : Type 0
-OnePlaceTwice = ¬ IsCommitOf tables (gone 0 (pos 3) ∷ gone 0 (pos 3) ∷ [])
-
-abbrev pub NoThirdTable : Type 0
-NoThirdTable = ¬ IsCommitOf tables (gone 2 (pos 3) ∷ [])
-
-abbrev pub KeyOf65Bits : Type 0
-KeyOf65Bits = ¬ IsCommitOf tables (gone 0 (pos (2 ^ 63)) ∷ [])
-
-abbrev pub RowOfAnotherKey : Type 0
-RowOfAnotherKey = ¬ IsCommitOf tables ((place_at 0 (pos 3), Some (text_row (pos 4))) ∷ [])
-
-abbrev pub RowOfAnotherTable : Type 0
-RowOfAnotherTable = ¬ IsCommitOf tables (left 0 (truth_row (pos 3)) ∷ [])
 
 -- a table's number has 8 bits
 abbrev pub TooManyTables : Type 0

@@ -1,5 +1,4 @@
 pub mod LogText
-pub mod Commits
 pub mod Reading
 pub mod Told
 pub mod Laws

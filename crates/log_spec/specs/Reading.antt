@@ -4,7 +4,7 @@ use Rattle.std.specs.Prelude.{take, All}
 use Rattle.std.specs.List.{AllByRecursion, flat_map}
 use Rattle.cell_model.specs.declared.table.TableDecl.{TableDecl}
 use Rattle.isolation_spec.specs.Contents.{History}
-use Rattle.log_spec.specs.Commits.{AreCommitsOf}
+use Rattle.isolation_spec.specs.Commits.{AreCommitsOf}
 use Rattle.log_spec.specs.LogText.{IsLogAt, IsOpen, Record, front_text, magic, payload_text, sized}
 
 -- Commits of these tables that a record may have: there is one, a table's number has 8 bits, and

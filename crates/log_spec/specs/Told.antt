@@ -9,7 +9,7 @@ use Rattle.cell_model.specs.declared.table.TableDecl.{TableDecl}
 use Rattle.cell_model.specs.Schemas.{begins_with_key}
 use Rattle.isolation_spec.specs.Contents.{WriteSet}
 use Rattle.isolation_spec.specs.declared.place.Place.{Place}
-use Rattle.log_spec.specs.Commits.{IsWriteOf}
+use Rattle.isolation_spec.specs.Commits.{IsWriteOf}
 
 -- The cell's number has 128 bits, its length 32.
 abbrev pub IsTold : Cell → Type 0

@@ -1,11 +1,8 @@
 //! Worked examples of logs: each is a fact that the definitions compute.
-ghost use Rattle.log_spec.specs.Examples.{EachCell, NoRecords, OneRow, TwoRecords};
-ghost use Rattle.log_spec.specs.Examples.{FallingKeys, FallingTables, KeyOf65Bits, NoThirdTable};
-ghost use Rattle.log_spec.specs.Examples.{NothingIsNoCommit, OnePlaceTwice, PlacesRise};
-ghost use Rattle.log_spec.specs.Examples.{RowOfAnotherKey, RowOfAnotherTable, TooManyTables};
-ghost use Rattle.log_spec.specs.Examples.{CutShort, NoFirstGate, NoNextGate, OtherFront};
-ghost use Rattle.log_spec.specs.Examples.{LongerThanItsCommits, NoCommits, NoTruth};
-ghost use Rattle.log_spec.specs.Examples.{SecondCutShort, ShortFront};
+ghost use Rattle.log_spec.specs.Examples.{CutShort, EachCell, LongerThanItsCommits};
+ghost use Rattle.log_spec.specs.Examples.{NoCommits, NoFirstGate, NoNextGate, NoRecords, NoTruth};
+ghost use Rattle.log_spec.specs.Examples.{OneRow, OtherFront, SecondCutShort, ShortFront};
+ghost use Rattle.log_spec.specs.Examples.{TooManyTables, TwoRecords};
 
 /// The payload of a commit of one row, and of two commits with each kind of cell, byte by byte.
 pub fn payloads_are_these_bytes()
@@ -20,23 +17,9 @@ pub fn logs_end_at_their_closed_gates()
     ensures two { TwoRecords }
 {}
 
-/// The places of a commit rise, by their tables and then by their keys.
-pub fn places_of_a_commit_rise()
-    ensures rise { PlacesRise }
-    ensures keys { FallingKeys }
-    ensures tables { FallingTables }
-    ensures twice { OnePlaceTwice }
-{}
-
-/// No commit writes nothing, or to a table that is not there, or leaves a row that does not fit its
-/// place.
-pub fn other_writes_are_no_commits()
-    ensures nothing { NothingIsNoCommit }
-    ensures table { NoThirdTable }
-    ensures key { KeyOf65Bits }
-    ensures place { RowOfAnotherKey }
-    ensures row { RowOfAnotherTable }
-    ensures tables { TooManyTables }
+/// No record has commits of more tables than have a number of 8 bits.
+pub fn a_table_has_a_number_of_8_bits()
+    ensures { TooManyTables }
 {}
 
 /// Bytes that do not begin as a log leave its form at 0, others at the gate of the first record

@@ -2,7 +2,6 @@
 #![tactic(auto)]
 
 pub mod examples;
-pub mod history;
 pub mod laws;
 
-pub use history::{History, WriteSet};
+pub use isolation_spec::{History, WriteSet};

@@ -1,5 +1,5 @@
 use Rattle.std.proofs.Common.{◌≡◌, ◌∙◌, All, Err, ap, subst, sym}
-use Rattle.log_spec.specs.Commits.{IsCommitOf}
+use Rattle.isolation_spec.specs.Commits.{IsCommitOf}
 use Rattle.log_spec.specs.Reading.{IsNoLog}
 use Rattle.payload_log.specs.declared.fault.LogFault.TheVariants.{Failed, NotALog}
 use Rattle.commit_log.proofs.Appends.{commits_fit}
