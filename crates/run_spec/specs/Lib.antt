@@ -2,6 +2,7 @@ pub mod Occurrences
 pub mod Opened
 pub mod Asked
 pub mod Told
+pub mod Commits
 pub mod Traces
 pub mod Calls
 pub mod Ran
