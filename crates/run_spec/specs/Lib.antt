@@ -11,3 +11,4 @@ pub mod Examples
 pub mod CheckedExamples
 pub mod RunExamples
 pub mod LendExamples
+pub mod CommitExamples

@@ -1,6 +1,8 @@
 //! Worked examples of calls: each is a fact that the definitions compute.
 ghost use Rattle.run_spec.specs.RunExamples.{ExportsBesideAWorker};
 ghost use Rattle.run_spec.specs.LendExamples.{LendsStandForReads};
+ghost use Rattle.run_spec.specs.CommitExamples.{AcceptedWritesAreCommitted, LogsHaveCommits};
+ghost use Rattle.run_spec.specs.CommitExamples.{RefusedCommitsKeepTheWrites};
 ghost use Rattle.run_spec.specs.CheckedExamples.{RangesAreReadInOrder, StaleCommitsEndNothing};
 ghost use Rattle.run_spec.specs.CheckedExamples.{TablesAreReadWhole};
 ghost use Rattle.run_spec.specs.Examples.{GetsTellTheRow, WritesAreTheTransactions};
@@ -85,4 +87,16 @@ pub fn lends_stand_for_reads()
 /// The core of a script.
 pub fn cores_are_of_scripts()
     ensures { CoresAreOfScripts }
+{}
+
+/// A session's commit has the writes that were accepted, each place once, and what was aborted is in
+/// none; one that is refused for a stale read keeps the writes.
+pub fn accepted_writes_are_committed()
+    ensures accepted { AcceptedWritesAreCommitted }
+    ensures refused { RefusedCommitsKeepTheWrites }
+{}
+
+/// The commits of a log stand in its order, behind those that the store began with.
+pub fn logs_have_commits()
+    ensures { LogsHaveCommits }
 {}
