@@ -83,13 +83,14 @@ three_transactions =
     ∷ begin 1 ∷ commit 1 (reply.Committed None) ∷ []
 
 -- A commit has the writes that were accepted, each place once with what was written last, in the
--- order of the places: a row, or that there is none. What was aborted is in none, and a commit
--- without a number is none.
+-- order of the places: a row, or that there is none. What was aborted is in none, and one that
+-- wrote nothing is none.
 abbrev pub AcceptedWritesAreCommitted : Type 0
 AcceptedWritesAreCommitted =
     (commits_of three_transactions
     ≡ wrote 4 (has_none 5 ∷ has_row 6 ∷ has_none 7 ∷ []) ∷ [])
     × ((writes_of three_transactions).own ≡ [])
+    × (commits_of (begin 1 ∷ commit 1 (reply.Committed (Some 5)) ∷ []) ≡ [])
 
 -- a commit that is refused for a stale read
 abbrev pub refused_once : List Occurrence

@@ -52,12 +52,34 @@ own_written own (event.Seal table block) told = own
 own_written own (event.Image table block image) told = own
 own_written own (event.Thaw table block) told = own
 
--- The commit that a reply tells, if it tells one with a number, of a transaction that wrote this.
+-- the commit of a transaction that wrote this, where the reply tells its number; one that wrote
+-- nothing has none
 abbrev pub commit_told : WriteSet → CoreReply → List Commit
-commit_told own told = option_to_list
+commit_told [] told = []
+commit_told (first ∷ rest) told = option_to_list
     (option_map
-    (λ number. record { number = number; writes = own })
+    (λ number. record { number = number; writes = first ∷ rest })
     (option_and_then commit_in (line_by told)))
+
+-- The commit that an event makes of what its session's open transaction wrote, if it makes one.
+abbrev pub commit_by : WriteSet → CoreEvent → CoreReply → List Commit
+commit_by own (event.Commit handed reads) told = commit_told own told
+commit_by own (event.Begin session) told = []
+commit_by own (event.Get handed table key) told = []
+commit_by own (event.Insert handed table row) told = []
+commit_by own (event.Update handed table row) told = []
+commit_by own (event.Delete handed table key) told = []
+commit_by own (event.Read handed table block) told = []
+commit_by own (event.Range handed table low high) told = []
+commit_by own (event.Abort handed) told = []
+commit_by own event.Oldest told = []
+commit_by own (event.Observe table block) told = []
+commit_by own (event.Prune table block oldest) told = []
+commit_by own (event.Look table block) told = []
+commit_by own (event.Move table moves) told = []
+commit_by own (event.Seal table block) told = []
+commit_by own (event.Image table block image) told = []
+commit_by own (event.Thaw table block) told = []
 
 -- What a session wrote: in its open transaction, nothing without one, and in its commits that have
 -- a number, in their order.
@@ -68,7 +90,7 @@ pub record SessionWrites : Type 0 where
 abbrev pub writes_behind : SessionWrites → Occurrence → SessionWrites
 writes_behind before made = record {
   own = own_written before.own made.event made.reply;
-  commits = before.commits ++ commit_told before.own made.reply;
+  commits = before.commits ++ commit_by before.own made.event made.reply;
 }
 
 -- What a session wrote by these events of its own.
@@ -86,7 +108,7 @@ commits_of own = (writes_of own).commits
 abbrev pub commits_along : List Occurrence → List Occurrence → List Commit
 commits_along front [] = []
 commits_along front (next ∷ rest) =
-    commit_told (writes_of (under next.session front)).own next.reply
+    commit_by (writes_of (under next.session front)).own next.event next.reply
     ++ commits_along (front ++ next ∷ []) rest
 
 abbrev pub write_sets : List Commit → History
