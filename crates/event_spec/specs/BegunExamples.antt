@@ -35,8 +35,9 @@ begun = record shape { first = three_commits }
 -- Heads over rows that fill slots from the first: the last row's block takes inserts.
 abbrev pub HeadsStandBehindRows : Type 0
 HeadsStandBehindRows =
-    (map (opening_head 3 4) (1 ∷ 4 ∷ 5 ∷ 8 ∷ 12 ∷ [])
-    ≡ record { block = 0; taken = 1; inserts = 1; empty = 1 ∷ 2 ∷ [] }
+    (map (opening_head 3 4) (0 ∷ 1 ∷ 4 ∷ 5 ∷ 8 ∷ 12 ∷ [])
+    ≡ record { block = 0; taken = 0; inserts = 0; empty = 1 ∷ 2 ∷ [] }
+    ∷ record { block = 0; taken = 1; inserts = 1; empty = 1 ∷ 2 ∷ [] }
     ∷ record { block = 0; taken = 4; inserts = 4; empty = 1 ∷ 2 ∷ [] }
     ∷ record { block = 1; taken = 1; inserts = 5; empty = 2 ∷ [] }
     ∷ record { block = 1; taken = 4; inserts = 8; empty = 2 ∷ [] }

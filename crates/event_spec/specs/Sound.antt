@@ -79,7 +79,7 @@ pub record Sound (shape : Shape) (parts : Parts) : Type 0 where
 
 -- There are at most 16 tables, and each has a block, and between 1 and 2 ^ 15 slots in it. What the
 -- core begins with are commits of the tables, at most 2 ^ 63, which leave no table more rows than it
--- takes. So far there are none.
+-- takes.
 pub record IsShape (shape : Shape) : Type 0 where
   pub tables : length shape.tables ≤ 16
   pub blocks : (table : ℕ) → HasTable shape table → 1 ≤ blocks_of shape table
@@ -89,4 +89,3 @@ pub record IsShape (shape : Shape) : Type 0 where
   pub few : length shape.first ≤ 2 ^ 63
   pub room : (table : ℕ) → HasTable shape table
       → length (rows_first shape table) ≤ blocks_of shape table * slots_of shape table
-  pub none : shape.first ≡ []

@@ -66,6 +66,18 @@ impl Desk {
         })
     }
 
+    /// Numbers a commit that came before the desk and wrote the marked tables. It takes no stamp.
+    pub fn know_commit(&mut self, tables: &TableMarks)
+        requires { self.old.commits < 2 ^ 63 }
+        ensures { self.new ≡ record self.old {
+          commits = self.old.commits + 1;
+          wrote = marked (self.old.commits + 1) (is_marked tables.now) self.old.wrote;
+        } }
+    {
+        self.commits += 1;
+        mark_all(&mut self.wrote, tables, self.commits);
+    }
+
     /// How many passes the desk has.
     pub fn passes(&self) -> u32
         ensures { result ≡ length self.now.open_snapshots }
