@@ -11,11 +11,14 @@ use Rattle.event_spec.specs.Replies.{CoreReply}
 use Rattle.isolation_spec.specs.Contents.{History, WriteSet, place_at}
 use Rattle.isolation_spec.specs.declared.place.Place.{Place}
 use Rattle.isolation_spec.specs.declared.read.Read.TheVariants as read
-use Rattle.outcome_spec.specs.Samples.{text_row}
+use Rattle.outcome_spec.specs.Samples.{sessions, text_row, texts}
+use Rattle.workload_spec.specs.declared.script.Script.{Script}
 use Rattle.run_spec.specs.declared.commit.Commit.{Commit}
 use Rattle.run_spec.specs.Commits.{commits_along, commits_of, history_behind, writes_of}
 use Rattle.run_spec.specs.Examples.{by}
+use Rattle.run_spec.specs.Histories.{history_at}
 use Rattle.run_spec.specs.Occurrences.{Occurrence, under}
+use Rattle.run_spec.specs.Ran.{RoundRun}
 
 -- ---- words
 
@@ -135,3 +138,21 @@ LogsHaveCommits =
     ≡ (has_row 1 ∷ has_row 2 ∷ []) ∷ (has_none 2 ∷ []) ∷ (has_row 6 ∷ []) ∷ (has_row 5 ∷ [])
     ∷ (has_row 7 ∷ []) ∷ [])
     × (history_behind two_first [] ≡ two_first)
+
+-- ---- rounds
+
+-- a run over those first commits in two rounds, of which nothing else is looked at
+abbrev pub over_two : Script
+over_two = record (sessions (texts 2) []) { begun = two_first }
+
+abbrev pub two_rounds : List RoundRun
+two_rounds =
+    record { made = until_a_commit; shares = [] } ∷ record { made = two_more; shares = [] } ∷ []
+
+-- Behind no round are the first commits, and behind each round its own too.
+abbrev pub RoundsLeaveHistories : Type 0
+RoundsLeaveHistories =
+    (history_at over_two two_rounds 0 ≡ two_first)
+    × (history_at over_two two_rounds 1 ≡ two_first ++ (has_row 6 ∷ []) ∷ [])
+    × (history_at over_two two_rounds 2
+    ≡ two_first ++ (has_row 6 ∷ []) ∷ (has_row 5 ∷ []) ∷ (has_row 7 ∷ []) ∷ [])
