@@ -1,3 +1,6 @@
+pub mod FirstRows
+pub mod FirstPlaces
+pub mod FirstFollows
 pub mod Opening
 pub mod Logs
 pub mod Refusals
