@@ -1,6 +1,9 @@
 -- Each transaction of an explained output is a run of the machine alone: a checked one that wrote in
 -- front of its number, one that left nothing behind the commits that it saw.
-use Rattle.std.proofs.Common.{◌≡◌, ◌⊎◌, inl, inr, ℕ, zero, suc, ◌+◌, ◌-◌, ◌<◌, ◌≤◌, Bool, true, false, cond, ◌&&◌, not, ◌==◌, nat_lt, nat_le, List, [], ◌∷◌, ◌++◌, take, length, get_or, map, count_by, Option, None, Some, is_some, refl, sym, ap, subst, ◌∙◌, arith}
+use Rattle.std.proofs.Common.{◌≡◌, ◌⊎◌, inl, inr, ℕ, zero, suc, ◌+◌, ◌-◌, ◌<◌, ◌≤◌, Bool, true, false, cond, ◌&&◌, not, ◌==◌, nat_lt, nat_le, List, [], ◌∷◌, ◌++◌, take, length, get_or, map, count_by, Option, None, Some, is_some, refl, sym, ap, subst, ◌∙◌, arith, length-append}
+use Rattle.std.specs.Prelude.{All}
+use Rattle.std.proofs.lemmas.List.{get_or-append_right}
+use Rattle.isolation_spec.specs.Order.{InOrder}
 use Rattle.std.specs.Prelude.{find, option_and_then}
 use Rattle.std.specs.List.{list_all, list_any, range_with_len}
 use Rattle.std.specs.Option.{option_map_or}
@@ -26,11 +29,10 @@ use Rattle.outcome_spec.specs.Stale.{is_checked, reads_last}
 use Rattle.outcome_spec.specs.Upkeep.{freezing_holds, full_holds, exports_hold, upkeep_holds}
 use Rattle.order_laws.proofs.Pieces.{count-cons}
 use Rattle.order_laws.specs.Places.{Rises}
-use Rattle.serial_laws.proofs.Bare.{bare}
 use Rattle.serial_laws.specs.Serial.{Among, IsServed, seen_from}
 use Rattle.serial_laws.specs.Alone.{Runs, alone, alone_steps, commit_number, end_alone, number_of, served_steps, step_of}
 use Rattle.serial_laws.proofs.Members.{all-among, among-behind, own-session, printed}
-use Rattle.serial_laws.proofs.Serial.{history-order, served}
+use Rattle.serial_laws.proofs.Serial.{served, shown-order}
 use Rattle.serial_laws.proofs.Whole.{commits_as as committed_as, found-among, is_of, its, rises}
 use Rattle.serial_laws.proofs.Steps.{aborts, amid, commits, idles}
 use Rattle.serial_laws.proofs.Walked.{none-written, rises-own, runs-alone, some-written}
@@ -138,14 +140,16 @@ ending-shown t number is = by (ending_of t) refl is
     by (Some ending) e h = (ending, e, commit-shown ending.reply.said number h)
     by None e h = absurd (none_some number h)
 
-module _ (script : Script) (text : List ℕ) (explained : Explained (bare script) text) where
+module _ (script : Script) (text : List ℕ) (explained : Explained script text) where
   -- what the output shows
   abbrev pub run : Run
-  run = run_in (bare script) text
+  run = run_in script text
 
-  -- Its history has its numbers.
-  pub many : length run.history ≡ commit_count run.entries
-  many = length-history (committed_writes run.entries run.transactions) 1 (commit_count run.entries)
+  -- Its history has its numbers, behind the commits that the store began with.
+  pub many : length run.history ≡ length script.begun + commit_count run.entries
+  many =
+      length-append script.begun (map (committed_writes run.entries run.transactions) (range_with_len (length script.begun + 1) (commit_count run.entries)))
+      ∙ ap (λ (n : ℕ). length script.begun + n) (length-history (committed_writes run.entries run.transactions) (length script.begun + 1) (commit_count run.entries))
 
   -- What is sound of a reply.
   pub sound : (e : Entry) → Among e run.entries → (commit_numbers_hold run e ≡ true) × (snapshot_numbers_hold run e ≡ true) × (reads_hold run e ≡ true) × (writes_hold run e ≡ true)
@@ -228,20 +232,20 @@ module _ (script : Script) (text : List ℕ) (explained : Explained (bare script
       numbered = and_parts (has_written run ending) (is_commit_number run ending number) (commit-sound ending last-in (said.Committed (Some number)) told)
 
       -- It is one of the numbers, on one line alone.
-      number-facts : (nat_le 1 number ≡ true) × (nat_le number (length run.history) ≡ true) × ((count_by (commits_as number) run.entries == 1) ≡ true)
-      number-facts = three (nat_le 1 number) (nat_le number (length run.history)) (count_by (commits_as number) run.entries == 1)
+      number-facts : (nat_lt (length script.begun) number ≡ true) × (nat_le number (length run.history) ≡ true) × ((count_by (commits_as number) run.entries == 1) ≡ true)
+      number-facts = three (nat_lt (length script.begun) number) (nat_le number (length run.history)) (count_by (commits_as number) run.entries == 1)
           (list_all (λ earlier. nat_lt earlier number) (shown_in commit_in (before run.entries ending))) numbered.1
 
-      -- It is above none.
-      above : 1 ≤ number
+      -- It is above those that the store began with.
+      above : length script.begun < number
       above = let h = number-facts.0 in grind (arith, nat_tests, h)
 
       -- It is one of them.
-      pub below : number ≤ commit_count run.entries
+      below : number ≤ length script.begun + commit_count run.entries
       below = let h = number-facts.1 in let all = many in grind (arith, nat_tests, h, all)
 
       -- Its line is the ending.
-      pub line : commit_line run.entries number ≡ Some ending
+      line : commit_line run.entries number ≡ Some ending
       line =
           let h = number-facts.2 in
           let one : count_by (commits_as number) run.entries ≡ 1 = grind (arith, nat_tests, h) in
@@ -249,13 +253,15 @@ module _ (script : Script) (text : List ℕ) (explained : Explained (bare script
           only-found (commits_as number) ending run.entries one (printed run.entries t (its script text explained t among) ending last-in) passes
 
       -- Its number is its own.
-      pub owner : option_and_then (transaction_of run) (commit_line run.entries number) ≡ Some t
+      owner : option_and_then (transaction_of run) (commit_line run.entries number) ≡ Some t
       owner = ap (option_and_then (transaction_of run)) line ∙ (is_of script text explained t among ending last-in).belongs
 
       -- Its write set is that of its number.
       set-is : get_or run.history (number - 1) [] ≡ writes_in t.replies
       set-is =
-          history-at (committed_writes run.entries run.transactions) 1 (commit_count run.entries) (number - 1) (omega (arith, above, below))
+          get_or-append_right script.begun (map (committed_writes run.entries run.transactions) (range_with_len (length script.begun + 1) (commit_count run.entries)))
+          (length script.begun) (number - 1) [] refl (omega (arith, above))
+          ∙ history-at (committed_writes run.entries run.transactions) (length script.begun + 1) (commit_count run.entries) (number - 1 - length script.begun) (omega (arith, above, below))
           ∙ ap (committed_writes run.entries run.transactions) (omega (arith, above))
           ∙ ap (λ (o : Option Span). option_map_or (λ (u : Span). writes_in u.replies) o []) owner
 
@@ -270,14 +276,14 @@ module _ (script : Script) (text : List ℕ) (explained : Explained (bare script
       front-many : length (take (number - 1) run.history) ≡ number - 1
       front-many = length-taken (number - 1) run.history (omega (arith, below, many))
 
-      pub writes-alone : is_checked t ≡ true → Runs (alone run.history (number - 1)) (alone_steps t (number - 1)) (alone run.history number)
-      writes-alone checked =
+      pub writes-alone : All InOrder script.begun → is_checked t ≡ true → Runs (alone run.history (number - 1)) (alone_steps t (number - 1)) (alone run.history number)
+      writes-alone ordered checked =
           let some = some-written t.replies (sym (wrote-so ending last-in) ∙ numbered.0) in
           let is : option_map_or (λ (e : Entry). end_alone e.reply.said) (ending_of t) (act.Abort, answer.Aborted) ≡ (act.Commit, answer.Committed (Some number)) =
           ap (λ (o : Option Entry). option_map_or (λ (e : Entry). end_alone e.reply.said) o (act.Abort, answer.Aborted)) ends ∙ ap end_alone told in
           subst (λ (last : Act × Answer). Runs (alone run.history (number - 1)) (step_of (number_of t.who) (act.Begin (is_checked t), answer.At (number - 1)) ∷ (served_steps (number_of t.who) t.replies ++ step_of (number_of t.who) last ∷ [])) (alone run.history number)) (sym is)
           (runs-alone run t (number - 1) (number_of t.who) (its script text explained t among).opening.reply.who order own
-          (λ e in'. served run t number (history-order run.entries run.transactions (range_with_len 1 (commit_count run.entries))) explained.replies checked
+          (λ e in'. served run t number (shown-order run ordered (range_with_len (length script.begun + 1) (commit_count run.entries))) explained.replies checked
           (committed_as script text explained t among ending number ends told) e (is_of script text explained t among e in'))
           front-many (step_of (number_of t.who) (act.Commit, answer.Committed (Some number))) (alone run.history number)
           (commits run.history (number - 1) (number_of t.who) (writes_in t.replies) some.0 some.1 some.2 number (let m = front-many in omega (arith, m, above)) taken))

@@ -1,4 +1,3 @@
-pub mod Bare
 pub mod Meets
 pub mod Steps
 pub mod Serial

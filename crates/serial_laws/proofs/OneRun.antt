@@ -1,6 +1,6 @@
 -- All transactions of an explained output, of which each that wrote is checked, are one run of the
 -- machine: each number is shown by a commit, and what stands behind another begins where it ends.
-use Rattle.std.proofs.Common.{◌≡◌, ◌⊎◌, inl, inr, ℕ, zero, suc, ◌+◌, ◌-◌, ◌≤◌, Bool, true, false, cond, ◌&&◌, ◌||◌, ◌==◌, eqb, nat_lt, nat_le, List, [], ◌∷◌, ◌++◌, take, length, count_by, Option, None, Some, is_some, is_none, refl, sym, ap, subst, ◌∙◌, arith}
+use Rattle.std.proofs.Common.{◌≡◌, ◌⊎◌, inl, inr, ℕ, zero, suc, ◌+◌, ◌-◌, ◌<◌, ◌≤◌, Bool, true, false, cond, ◌&&◌, ◌||◌, ◌==◌, eqb, nat_lt, nat_le, List, [], ◌∷◌, ◌++◌, take, length, count_by, Option, None, Some, is_some, is_none, refl, sym, ap, subst, ◌∙◌, arith}
 use Rattle.std.specs.Prelude.{find, flat_map, option_and_then}
 use Rattle.std.specs.List.{cons_option, filter, filter_map, list_all, list_any, range_with_len}
 use Rattle.std.specs.Option.{option_map_or}
@@ -8,6 +8,9 @@ use Rattle.std.proofs.lemmas.Bool.{and_parts, eqb-true}
 use Rattle.std.proofs.lemmas.Bool.Decides.{nat_tests}
 use Rattle.isolation_spec.specs.Contents.{History}
 use Rattle.isolation_spec.specs.Machine as machine
+use Rattle.isolation_spec.specs.Order.{InOrder}
+use Rattle.std.specs.Prelude.{All}
+use Rattle.std.proofs.Math.Seq.{take-append_seam}
 use Rattle.workload_spec.specs.declared.reply.Said.{Said}
 use Rattle.workload_spec.specs.declared.reply.Who.{Who}
 use Rattle.workload_spec.specs.declared.script.Script.{Script}
@@ -19,7 +22,6 @@ use Rattle.outcome_spec.specs.Stale.{is_checked}
 use Rattle.order_laws.proofs.Pieces.{count-cons}
 use Rattle.order_laws.proofs.Places.{Behind, Beside, Own, ahead-cases, earlier-itself, same-is}
 use Rattle.order_laws.specs.Places.{Rises, is_ahead, is_earlier}
-use Rattle.serial_laws.proofs.Bare.{bare}
 use Rattle.serial_laws.specs.Serial.{Among}
 use Rattle.serial_laws.specs.Alone.{Runs, alone, alone_steps, commit_number, reader_steps, serial_steps, writer_steps}
 use Rattle.serial_laws.proofs.Members.{all-among, printed}
@@ -151,20 +153,20 @@ count-all m (x ∷ xs) h =
         let low : nat_le k m ≡ true = grind (arith, nat_tests, le) in
         rw (is, low) (omega arith)
 
--- Where no commit is as zero, none is up to it.
-count-none : (xs : List Entry) → ((e : Entry) (k : ℕ) → Among e xs → shown_by e ≡ Some k → 1 ≤ k) → count_by (is_low 0) xs ≡ 0
-count-none [] h = refl
-count-none (x ∷ xs) h =
-    let a = count-cons (is_low 0) x xs in
-    let rest = count-none xs (λ e k in' is. h e k (inr in') is) in
+-- Where all commits are above a number, none is up to it.
+count-none : (m : ℕ) (xs : List Entry) → ((e : Entry) (k : ℕ) → Among e xs → shown_by e ≡ Some k → m < k) → count_by (is_low m) xs ≡ 0
+count-none m [] h = refl
+count-none m (x ∷ xs) h =
+    let a = count-cons (is_low m) x xs in
+    let rest = count-none m xs (λ e k in' is. h e k (inr in') is) in
     let here = by (shown_by x) refl in
     omega (arith, a, rest, here)
   where
-    by : (o : Option ℕ) → shown_by x ≡ o → cond {A = ℕ} (option_map_or (λ (k : ℕ). nat_le k 0) (shown_by x) false) 1 0 ≡ 0
+    by : (o : Option ℕ) → shown_by x ≡ o → cond {A = ℕ} (option_map_or (λ (k : ℕ). nat_le k m) (shown_by x) false) 1 0 ≡ 0
     by None is = rw is refl
     by (Some k) is =
         let le = h x k (inl refl) is in
-        let low : nat_le k 0 ≡ false = grind (arith, nat_tests, le) in
+        let low : nat_le k m ≡ false = grind (arith, nat_tests, le) in
         rw (is, low) refl
 
 -- With so many numbers more no more commits are counted.
@@ -194,19 +196,19 @@ shows : (o : Option ℕ) (k : ℕ) → option_map_or (λ (shown : ℕ). shown ==
 shows (Some n) k h = ap (λ (m : ℕ). Some m) (eqb-true n k h)
 shows None k h = absurd (true_false (sym h))
 
-module _ (script : Script) (text : List ℕ) (explained : Explained (bare script) text)
-    (checked : (t : Span) (number : ℕ) → Among t (run_in (bare script) text).transactions → commit_number t ≡ Some number → is_checked t ≡ true) where
+module _ (script : Script) (text : List ℕ) (ordered : All InOrder script.begun) (explained : Explained script text)
+    (checked : (t : Span) (number : ℕ) → Among t (run_in script text).transactions → commit_number t ≡ Some number → is_checked t ≡ true) where
   -- What a reply that shows a number says of it.
-  numbered : (e : Entry) (k : ℕ) → Among e (run_in (bare script) text).entries → shown_by e ≡ Some k → (has_written (run_in (bare script) text) e ≡ true) × (is_commit_number (run_in (bare script) text) e k ≡ true)
+  numbered : (e : Entry) (k : ℕ) → Among e (run_in script text).entries → shown_by e ≡ Some k → (has_written (run_in script text) e ≡ true) × (is_commit_number (run_in script text) e k ≡ true)
   numbered e k in' is =
-      and_parts (has_written (run_in (bare script) text) e) (is_commit_number (run_in (bare script) text) e k)
-      (subst (λ (told : Said). commit_holds (run_in (bare script) text) e told ≡ true) (commit-shown e.reply.said k is) (sound script text explained e in').0)
+      and_parts (has_written (run_in script text) e) (is_commit_number (run_in script text) e k)
+      (subst (λ (told : Said). commit_holds (run_in script text) e told ≡ true) (commit-shown e.reply.said k is) (sound script text explained e in').0)
 
   -- It is one of the numbers, on one line alone.
-  facts : (e : Entry) (k : ℕ) → Among e (run_in (bare script) text).entries → shown_by e ≡ Some k → (1 ≤ k) × (k ≤ commit_count (run_in (bare script) text).entries) × (count_by (commits_as k) (run_in (bare script) text).entries ≡ 1)
+  facts : (e : Entry) (k : ℕ) → Among e (run_in script text).entries → shown_by e ≡ Some k → (length script.begun < k) × (k ≤ length script.begun + commit_count (run_in script text).entries) × (count_by (commits_as k) (run_in script text).entries ≡ 1)
   facts e k in' is =
-      let all = three (nat_le 1 k) (nat_le k (length (run_in (bare script) text).history)) (count_by (commits_as k) (run_in (bare script) text).entries == 1)
-      (list_all (λ earlier. nat_lt earlier k) (shown_in commit_in (before (run_in (bare script) text).entries e))) (numbered e k in' is).1 in
+      let all = three (nat_lt (length script.begun) k) (nat_le k (length (run_in script text).history)) (count_by (commits_as k) (run_in script text).entries == 1)
+      (list_all (λ earlier. nat_lt earlier k) (shown_in commit_in (before (run_in script text).entries e))) (numbered e k in' is).1 in
       let a = all.0 in
       let b = all.1 in
       let c = all.2 in
@@ -214,69 +216,70 @@ module _ (script : Script) (text : List ℕ) (explained : Explained (bare script
       (grind (arith, nat_tests, a), grind (arith, nat_tests, b, long), grind (arith, nat_tests, c))
 
   -- No number is shown twice.
-  once : (k : ℕ) → count_by (commits_as k) (run_in (bare script) text).entries ≤ 1
-  once k = by (count_by (commits_as k) (run_in (bare script) text).entries) refl
+  once : (k : ℕ) → count_by (commits_as k) (run_in script text).entries ≤ 1
+  once k = by (count_by (commits_as k) (run_in script text).entries) refl
     where
-      by : (n : ℕ) → count_by (commits_as k) (run_in (bare script) text).entries ≡ n → count_by (commits_as k) (run_in (bare script) text).entries ≤ 1
+      by : (n : ℕ) → count_by (commits_as k) (run_in script text).entries ≡ n → count_by (commits_as k) (run_in script text).entries ≤ 1
       by zero is = omega (arith, is)
       by (suc n) is =
-          let found = first-counted (commits_as k) (run_in (bare script) text).entries (omega (arith, is)) in
+          let found = first-counted (commits_as k) (run_in script text).entries (omega (arith, is)) in
           let one = (facts found.0 k found.1 (shows (shown_by found.0) k found.2)).2 in
           omega (arith, one)
 
   -- Each number is shown.
-  each-shown : (k : ℕ) → 1 ≤ k → k ≤ commit_count (run_in (bare script) text).entries → 1 ≤ count_by (commits_as k) (run_in (bare script) text).entries
-  each-shown k low high = by (count_by (commits_as k) (run_in (bare script) text).entries) refl
+  each-shown : (k : ℕ) → length script.begun < k → k ≤ length script.begun + commit_count (run_in script text).entries → 1 ≤ count_by (commits_as k) (run_in script text).entries
+  each-shown k low high = by (count_by (commits_as k) (run_in script text).entries) refl
     where
-      by : (n : ℕ) → count_by (commits_as k) (run_in (bare script) text).entries ≡ n → 1 ≤ count_by (commits_as k) (run_in (bare script) text).entries
+      by : (n : ℕ) → count_by (commits_as k) (run_in script text).entries ≡ n → 1 ≤ count_by (commits_as k) (run_in script text).entries
       by (suc n) is = omega (arith, is)
       by zero is =
-          let c = commit_count (run_in (bare script) text).entries in
-          let xs = (run_in (bare script) text).entries in
-          let all : count_by (is_low c) xs ≡ c = count-all c xs (λ e m in' shown. (facts e m in' shown).1) in
-          let none = count-none xs (λ e m in' shown. (facts e m in' shown).0) in
-          let front = count-up xs once 0 (k - 1) in
+          let least = length script.begun in
+          let c = commit_count (run_in script text).entries in
+          let xs = (run_in script text).entries in
+          let all : count_by (is_low (least + c)) xs ≡ c = count-all (least + c) xs (λ e m in' shown. (facts e m in' shown).1) in
+          let none = count-none least xs (λ e m in' shown. (facts e m in' shown).0) in
+          let front = count-up xs once least (k - 1 - least) in
           let at : count_by (is_low k) xs ≡ count_by (is_low (k - 1)) xs + count_by (commits_as k) xs =
           subst (λ (n : ℕ). count_by (is_low n) xs ≡ count_by (is_low (k - 1)) xs + count_by (commits_as n) xs) (let e : k - 1 + 1 ≡ k = omega (arith, low) in e) (count-step (k - 1) xs) in
-          let zeroth = ap (λ (n : ℕ). count_by (is_low n) xs) (let e : 0 + (k - 1) ≡ k - 1 = omega arith in e) in
-          let back = count-up xs once k (c - k) in
-          let last = ap (λ (n : ℕ). count_by (is_low n) xs) (let e : k + (c - k) ≡ c = omega (arith, high) in e) in
-          absurd (omega (arith, all, none, front, at, zeroth, back, last, is, low, high))
+          let first = ap (λ (n : ℕ). count_by (is_low n) xs) (let e : least + (k - 1 - least) ≡ k - 1 = omega (arith, low) in e) in
+          let back = count-up xs once k (least + c - k) in
+          let last = ap (λ (n : ℕ). count_by (is_low n) xs) (let e : k + (least + c - k) ≡ least + c = omega (arith, high) in e) in
+          absurd (omega (arith, all, none, front, at, first, back, last, is, low, high))
 
   -- ---- the writers
 
   -- The transaction that a commit belongs to ends with it.
-  ending-is : (e : Entry) (t : Span) → Among e (run_in (bare script) text).entries → is_end e.reply.said ≡ true → transaction_of (run_in (bare script) text) e ≡ Some t → (among : Among t (run_in (bare script) text).transactions) × (ending_of t ≡ Some e)
+  ending-is : (e : Entry) (t : Span) → Among e (run_in script text).entries → is_end e.reply.said ≡ true → transaction_of (run_in script text) e ≡ Some t → (among : Among t (run_in script text).transactions) × (ending_of t ≡ Some e)
   ending-is e t in' ends belongs =
-      let found = found-span (λ (u : Span). list_any (is_reply e) u.replies) (run_in (bare script) text).transactions t belongs in
+      let found = found-span (λ (u : Span). list_any (is_reply e) u.replies) (run_in script text).transactions t belongs in
       let o = its script text explained t found.0 in
       let other = one-of e t.replies found.1 in
-      let same = same-reply (run_in (bare script) text).entries e other.0 (rises script text explained t found.0) in' (printed (run_in (bare script) text).entries t o other.0 other.1) other.2 in
+      let same = same-reply (run_in script text).entries e other.0 (rises script text explained t found.0) in' (printed (run_in script text).entries t o other.0 other.1) other.2 in
       let has : Among e t.replies = subst (λ (x : Entry). Among x t.replies) (sym same) other.1 in
       let last = end-found e (o.opening ∷ thread o.opening.reply.who o.behind) (subst (λ (u : Span). Among e u.replies) o.span has) ends in
       (found.0, subst (λ (u : Span). find (λ (x : Entry). is_end x.reply.said) u.replies ≡ Some e) (sym o.span) last)
 
   -- A reply that wrote belongs to a transaction.
-  has-its : (e : Entry) → has_written (run_in (bare script) text) e ≡ true → (t : Span) × (transaction_of (run_in (bare script) text) e ≡ Some t)
-  has-its e h = by (transaction_of (run_in (bare script) text) e) refl h
+  has-its : (e : Entry) → has_written (run_in script text) e ≡ true → (t : Span) × (transaction_of (run_in script text) e ≡ Some t)
+  has-its e h = by (transaction_of (run_in script text) e) refl h
     where
-      by : (o : Option Span) → transaction_of (run_in (bare script) text) e ≡ o → option_map_or (λ (u : Span). list_any (λ (other : Entry). is_some (accepted_write other)) u.replies) o false ≡ true → (t : Span) × (transaction_of (run_in (bare script) text) e ≡ Some t)
+      by : (o : Option Span) → transaction_of (run_in script text) e ≡ o → option_map_or (λ (u : Span). list_any (λ (other : Entry). is_some (accepted_write other)) u.replies) o false ≡ true → (t : Span) × (transaction_of (run_in script text) e ≡ Some t)
       by (Some t) is k = (t, is)
       by None is k = absurd (true_false (sym k))
 
   -- The transaction of a number is a run from the commit before.
-  writer : (k : ℕ) → 1 ≤ k → k ≤ commit_count (run_in (bare script) text).entries → Runs (alone (run_in (bare script) text).history (k - 1)) (writer_steps (run_in (bare script) text) k) (alone (run_in (bare script) text).history k)
+  writer : (k : ℕ) → length script.begun < k → k ≤ length script.begun + commit_count (run_in script text).entries → Runs (alone (run_in script text).history (k - 1)) (writer_steps (run_in script text) k) (alone (run_in script text).history k)
   writer k low high =
-      let found = first-counted (commits_as k) (run_in (bare script) text).entries (each-shown k low high) in
+      let found = first-counted (commits_as k) (run_in script text).entries (each-shown k low high) in
       let e = found.0 in
       let shown = shows (shown_by e) k found.2 in
       let told = commit-shown e.reply.said k shown in
       let t = has-its e (numbered e k found.1 shown).0 in
       let ends = ending-is e t.0 found.1 (ap is_end told) t.1 in
       let number : commit_number t.0 ≡ Some k = ap (option_and_then (λ (x : Entry). commit_in x.reply.said)) ends.1 ∙ shown in
-      let steps : option_and_then (transaction_of (run_in (bare script) text)) (commit_line (run_in (bare script) text).entries k) ≡ Some t.0 = ap (option_and_then (transaction_of (run_in (bare script) text))) found.3 ∙ t.1 in
-      subst (λ (o : Option Span). Runs (alone (run_in (bare script) text).history (k - 1)) (option_map_or (λ (u : Span). alone_steps u (k - 1)) o []) (alone (run_in (bare script) text).history k)) (sym steps)
-      (writes-alone script text explained t.0 ends.0 k e ends.1 told (checked t.0 k ends.0 number))
+      let steps : option_and_then (transaction_of (run_in script text)) (commit_line (run_in script text).entries k) ≡ Some t.0 = ap (option_and_then (transaction_of (run_in script text))) found.3 ∙ t.1 in
+      subst (λ (o : Option Span). Runs (alone (run_in script text).history (k - 1)) (option_map_or (λ (u : Span). alone_steps u (k - 1)) o []) (alone (run_in script text).history k)) (sym steps)
+      (writes-alone script text explained t.0 ends.0 k e ends.1 told ordered (checked t.0 k ends.0 number))
 
   -- ---- the readers
 
@@ -286,55 +289,61 @@ module _ (script : Script) (text : List ℕ) (explained : Explained (bare script
   is-none (Some n) h = absurd (true_false (sym h))
 
   -- The transactions that left nothing and saw so many commits are a run behind them.
-  readers-of : (n : ℕ) (ts : List Span) → ((t : Span) → Among t ts → Among t (run_in (bare script) text).transactions)
-      → Runs (alone (run_in (bare script) text).history n) (flat_map (λ t. alone_steps t n) (filter (λ t. is_none (commit_number t) && t.snapshot == n) ts)) (alone (run_in (bare script) text).history n)
+  readers-of : (n : ℕ) (ts : List Span) → ((t : Span) → Among t ts → Among t (run_in script text).transactions)
+      → Runs (alone (run_in script text).history n) (flat_map (λ t. alone_steps t n) (filter (λ t. is_none (commit_number t) && t.snapshot == n) ts)) (alone (run_in script text).history n)
   readers-of n [] all = refl
   readers-of n (t ∷ ts) all = by (is_none (commit_number t) && t.snapshot == n) refl (readers-of n ts (λ u in'. all u (inr in')))
     where
-      here : (is_none (commit_number t) && t.snapshot == n) ≡ true → Runs (alone (run_in (bare script) text).history n) (alone_steps t n) (alone (run_in (bare script) text).history n)
+      here : (is_none (commit_number t) && t.snapshot == n) ≡ true → Runs (alone (run_in script text).history n) (alone_steps t n) (alone (run_in script text).history n)
       here is =
           let both = and_parts (is_none (commit_number t)) (t.snapshot == n) is in
           let at : t.snapshot ≡ n = eqb-true t.snapshot n both.1 in
-          subst (λ (m : ℕ). Runs (alone (run_in (bare script) text).history m) (alone_steps t m) (alone (run_in (bare script) text).history m)) at
+          subst (λ (m : ℕ). Runs (alone (run_in script text).history m) (alone_steps t m) (alone (run_in script text).history m)) at
           (reads-alone script text explained t (all t (inl refl)) (is-none (commit_number t) both.0))
 
       by : (b : Bool) → (is_none (commit_number t) && t.snapshot == n) ≡ b
-          → Runs (alone (run_in (bare script) text).history n) (flat_map (λ t. alone_steps t n) (filter (λ t. is_none (commit_number t) && t.snapshot == n) ts)) (alone (run_in (bare script) text).history n)
-          → Runs (alone (run_in (bare script) text).history n) (flat_map (λ t. alone_steps t n) (cond b (t ∷ filter (λ t. is_none (commit_number t) && t.snapshot == n) ts) (filter (λ t. is_none (commit_number t) && t.snapshot == n) ts))) (alone (run_in (bare script) text).history n)
-      by true is rest = runs-append (alone (run_in (bare script) text).history n) (alone_steps t n) (flat_map (λ t. alone_steps t n) (filter (λ t. is_none (commit_number t) && t.snapshot == n) ts)) (alone (run_in (bare script) text).history n) (alone (run_in (bare script) text).history n) (here is) rest
+          → Runs (alone (run_in script text).history n) (flat_map (λ t. alone_steps t n) (filter (λ t. is_none (commit_number t) && t.snapshot == n) ts)) (alone (run_in script text).history n)
+          → Runs (alone (run_in script text).history n) (flat_map (λ t. alone_steps t n) (cond b (t ∷ filter (λ t. is_none (commit_number t) && t.snapshot == n) ts) (filter (λ t. is_none (commit_number t) && t.snapshot == n) ts))) (alone (run_in script text).history n)
+      by true is rest = runs-append (alone (run_in script text).history n) (alone_steps t n) (flat_map (λ t. alone_steps t n) (filter (λ t. is_none (commit_number t) && t.snapshot == n) ts)) (alone (run_in script text).history n) (alone (run_in script text).history n) (here is) rest
       by false is rest = rest
 
   -- So are all of these.
-  readers : (n : ℕ) → Runs (alone (run_in (bare script) text).history n) (reader_steps (run_in (bare script) text) n) (alone (run_in (bare script) text).history n)
-  readers n = readers-of n (run_in (bare script) text).transactions (λ t in'. in')
+  readers : (n : ℕ) → Runs (alone (run_in script text).history n) (reader_steps (run_in script text) n) (alone (run_in script text).history n)
+  readers n = readers-of n (run_in script text).transactions (λ t in'. in')
 
   -- ---- all
 
   -- The transactions from a number on are a run from the commit before.
-  onward : (at len : ℕ) → 1 ≤ at → at + len ≡ commit_count (run_in (bare script) text).entries + 1
-      → Runs (alone (run_in (bare script) text).history (at - 1)) (flat_map (λ number. writer_steps (run_in (bare script) text) number ++ reader_steps (run_in (bare script) text) number) (range_with_len at len))
-      (alone (run_in (bare script) text).history (commit_count (run_in (bare script) text).entries))
-  onward at zero low is = ap (alone (run_in (bare script) text).history) (omega (arith, is))
+  onward : (at len : ℕ) → length script.begun < at → at + len ≡ length script.begun + commit_count (run_in script text).entries + 1
+      → Runs (alone (run_in script text).history (at - 1)) (flat_map (λ number. writer_steps (run_in script text) number ++ reader_steps (run_in script text) number) (range_with_len at len))
+      (alone (run_in script text).history (length script.begun + commit_count (run_in script text).entries))
+  onward at zero low is = ap (alone (run_in script text).history) (omega (arith, is))
   onward at (suc len) low is =
-      let rest = onward (at + 1) len (omega arith) (omega (arith, is)) in
-      let next : Runs (alone (run_in (bare script) text).history at) (flat_map (λ number. writer_steps (run_in (bare script) text) number ++ reader_steps (run_in (bare script) text) number) (range_with_len (at + 1) len)) (alone (run_in (bare script) text).history (commit_count (run_in (bare script) text).entries)) =
-      subst (λ (n : ℕ). Runs (alone (run_in (bare script) text).history n) (flat_map (λ number. writer_steps (run_in (bare script) text) number ++ reader_steps (run_in (bare script) text) number) (range_with_len (at + 1) len)) (alone (run_in (bare script) text).history (commit_count (run_in (bare script) text).entries)))
+      let rest = onward (at + 1) len (omega (arith, low)) (omega (arith, is)) in
+      let next : Runs (alone (run_in script text).history at) (flat_map (λ number. writer_steps (run_in script text) number ++ reader_steps (run_in script text) number) (range_with_len (at + 1) len)) (alone (run_in script text).history (length script.begun + commit_count (run_in script text).entries)) =
+      subst (λ (n : ℕ). Runs (alone (run_in script text).history n) (flat_map (λ number. writer_steps (run_in script text) number ++ reader_steps (run_in script text) number) (range_with_len (at + 1) len)) (alone (run_in script text).history (length script.begun + commit_count (run_in script text).entries)))
       (let e : at + 1 - 1 ≡ at = omega arith in e) rest in
-      runs-append (alone (run_in (bare script) text).history (at - 1)) (writer_steps (run_in (bare script) text) at ++ reader_steps (run_in (bare script) text) at)
-      (flat_map (λ number. writer_steps (run_in (bare script) text) number ++ reader_steps (run_in (bare script) text) number) (range_with_len (at + 1) len))
-      (alone (run_in (bare script) text).history at) (alone (run_in (bare script) text).history (commit_count (run_in (bare script) text).entries))
-      (runs-append (alone (run_in (bare script) text).history (at - 1)) (writer_steps (run_in (bare script) text) at) (reader_steps (run_in (bare script) text) at) (alone (run_in (bare script) text).history at) (alone (run_in (bare script) text).history at)
+      runs-append (alone (run_in script text).history (at - 1)) (writer_steps (run_in script text) at ++ reader_steps (run_in script text) at)
+      (flat_map (λ number. writer_steps (run_in script text) number ++ reader_steps (run_in script text) number) (range_with_len (at + 1) len))
+      (alone (run_in script text).history at) (alone (run_in script text).history (length script.begun + commit_count (run_in script text).entries))
+      (runs-append (alone (run_in script text).history (at - 1)) (writer_steps (run_in script text) at) (reader_steps (run_in script text) at) (alone (run_in script text).history at) (alone (run_in script text).history at)
       (writer at low (omega (arith, is))) (readers at))
       next
 
-  -- all of them are one run, from no commit to all
-  pub one-run : Runs machine.opening (serial_steps (run_in (bare script) text)) (record { history = (run_in (bare script) text).history; open_transactions = [] })
+  -- all of them are one run, from the commits that the store began with to all
+  pub one-run : Runs (machine.opening_from script.begun) (serial_steps (run_in script text)) (record { history = (run_in script text).history; open_transactions = [] })
   one-run =
-      let h = (run_in (bare script) text).history in
-      let c = commit_count (run_in (bare script) text).entries in
+      let h = (run_in script text).history in
+      let least = length script.begun in
+      let c = commit_count (run_in script text).entries in
       let length-is = many script text explained in
-      let all = onward 1 (length h) (omega arith) (omega (arith, length-is)) in
-      let taken : take c h ≡ h = ap (λ (n : ℕ). take n h) (sym length-is) ∙ take-all h in
-      subst (λ (end : History). Runs machine.opening (serial_steps (run_in (bare script) text)) (record { history = end; open_transactions = [] })) taken
-      (runs-append machine.opening (reader_steps (run_in (bare script) text) 0) (flat_map (λ number. writer_steps (run_in (bare script) text) number ++ reader_steps (run_in (bare script) text) number) (range_with_len 1 (length h)))
-      (alone h 0) (alone h c) (readers 0) all)
+      let all = onward (least + 1) (length h - least) (omega arith) (omega (arith, length-is)) in
+      let taken : take (least + c) h ≡ h = ap (λ (n : ℕ). take n h) (sym length-is) ∙ take-all h in
+      let begun : alone h least ≡ machine.opening_from script.begun = ap machine.opening_from (take-append_seam script.begun _) in
+      let next = subst (λ (n : ℕ). Runs (alone h n) (flat_map (λ number. writer_steps (run_in script text) number ++ reader_steps (run_in script text) number) (range_with_len (least + 1) (length h - least))) (alone h (least + c)))
+      (let e : least + 1 - 1 ≡ least = omega arith in e) all in
+      subst (λ (from : machine.IsolationMachine). Runs from (serial_steps (run_in script text)) (record { history = h; open_transactions = [] })) begun
+      (subst (λ (end : History). Runs (alone h least) (serial_steps (run_in script text)) (record { history = end; open_transactions = [] })) taken
+      (runs-append (alone h least) (reader_steps (run_in script text) least)
+      (flat_map (λ number. writer_steps (run_in script text) number ++ reader_steps (run_in script text) number) (range_with_len (least + 1) (length h - least)))
+      (alone h least) (alone h (least + c)) (readers least) next))

@@ -1,11 +1,11 @@
 -- Checked transactions are serial.
-use Rattle.std.proofs.Common.{◌≡◌, ℕ, ◌+◌, ◌-◌, ◌<◌, Bool, true, false, ◌&&◌, ◌||◌, not, nat_le, List, [], ◌∷◌, Option, None, Some, get_or, map, fold, All, refl, sym, ap, ◌∙◌, arith, option_map, inl, inr}
+use Rattle.std.proofs.Common.{◌≡◌, ℕ, ◌+◌, ◌-◌, ◌<◌, Bool, true, false, ◌&&◌, ◌||◌, not, nat_le, List, [], ◌∷◌, ◌++◌, Option, None, Some, get_or, map, fold, All, refl, sym, ap, ◌∙◌, arith, option_map, inl, inr}
 use Rattle.std.specs.BTreeMap.{insert_entry}
 use Rattle.std.specs.Prelude.{option_and_then}
 use Rattle.std.specs.List.{cons_option, filter_map, list_all}
 use Rattle.std.specs.Option.{option_map_or}
 use Rattle.std.proofs.lemmas.Bool.{and_parts}
-use Rattle.std.proofs.lemmas.List.Elements.{All-nil, All-cons}
+use Rattle.std.proofs.lemmas.List.Elements.{All-append, All-nil, All-cons}
 use Rattle.cell_model.specs.declared.cell.Cell.{Cell}
 use Rattle.isolation_spec.specs.Contents.{place_cmp, at_place, WriteSet}
 use Rattle.isolation_spec.specs.declared.place.Place.{Place}
@@ -74,9 +74,13 @@ committed-order entries spans number = go (option_and_then (transaction_with spa
     go (Some t) = writes-order t.replies
 
 -- so is each of a history
-pub history-order : (entries : List Entry) (spans : List Span) (numbers : List ℕ) → All InOrder (map (committed_writes entries spans) numbers)
+history-order : (entries : List Entry) (spans : List Span) (numbers : List ℕ) → All InOrder (map (committed_writes entries spans) numbers)
 history-order entries spans [] = All-nil InOrder
 history-order entries spans (n ∷ ns) = All-cons InOrder (committed_writes entries spans n) (map (committed_writes entries spans) ns) (committed-order entries spans n) (history-order entries spans ns)
+
+-- So are those of an output over a store that began with write sets in order.
+pub shown-order : (run : Run) → All InOrder run.first → (numbers : List ℕ) → All InOrder (run.first ++ map (committed_writes run.entries run.transactions) numbers)
+shown-order run first numbers = All-append InOrder run.first (map (committed_writes run.entries run.transactions) numbers) first (history-order run.entries run.transactions numbers)
 
 -- ---- the law
 

@@ -26,7 +26,6 @@ use Rattle.order_laws.proofs.Places.{Behind, Beside, Own, ahead-cases, earlier-i
 use Rattle.order_laws.proofs.Walk.{read-rise, read-outside}
 use Rattle.order_laws.specs.Opened.{OpensOutside}
 use Rattle.order_laws.specs.Places.{Rises, is_ahead, is_earlier}
-use Rattle.serial_laws.proofs.Bare.{bare}
 use Rattle.serial_laws.specs.Serial.{Among, IsOf, CommitsAs}
 use Rattle.serial_laws.proofs.Members.{Opening, opened, printed, belongs, among-up_to, among-filter, among-behind, own-session, all-among, shown-among}
 
@@ -122,10 +121,10 @@ before-own x y ahead who = go (ahead-cases x y ahead)
         let index : nat_lt x.reply.index y.reply.index ≡ true = grind (arith, nat_tests, o.index) in
         rw (less, equal, same, index) refl
 
-module _ (script : Script) (text : List ℕ) (explained : Explained (bare script) text) (t : Span) (among : Among t (run_in (bare script) text).transactions) where
+module _ (script : Script) (text : List ℕ) (explained : Explained script text) (t : Span) (among : Among t (run_in script text).transactions) where
   -- The replies that were read.
   abbrev entries : List Entry
-  entries = (run_in (bare script) text).entries
+  entries = (run_in script text).entries
 
   read : replies_of script text ≡ Ok entries
   read = ok-is (replies_of script text) explained.forms
@@ -139,7 +138,7 @@ module _ (script : Script) (text : List ℕ) (explained : Explained (bare script
   pub its : Opening entries t
   its = opened entries t among
 
-  pub is_of : (entry : Entry) → Among entry t.replies → IsOf (run_in (bare script) text) t entry
+  pub is_of : (entry : Entry) → Among entry t.replies → IsOf (run_in script text) t entry
   is_of entry of = record { printed = printed entries t its entry of; of = of; belongs = belongs entries rises outside t its entry of }
 
   -- it ends behind the reply that opens it
@@ -156,15 +155,15 @@ module _ (script : Script) (text : List ℕ) (explained : Explained (bare script
       let order = rises-rest its.ahead (its.opening ∷ its.behind) (subst Rises its.whole rises) in
       let ahead : is_ahead its.opening ending ≡ true = all-among (is_ahead its.opening) ending its.behind stands.0 order.0 in
       let first : Among its.opening entries = subst (Among its.opening) (sym its.whole) (among-behind its.opening its.ahead (its.opening ∷ its.behind) (inl refl)) in
-      let sound : is_sound (run_in (bare script) text) its.opening ≡ true = all-among (is_sound (run_in (bare script) text)) its.opening entries first explained.replies in
-      let shown : snapshot_numbers_hold (run_in (bare script) text) its.opening ≡ true = second-of (commit_numbers_hold (run_in (bare script) text) its.opening) (snapshot_numbers_hold (run_in (bare script) text) its.opening) (reads_hold (run_in (bare script) text) its.opening) (writes_hold (run_in (bare script) text) its.opening) (conflicts_hold (run_in (bare script) text) its.opening)
-      (freezing_holds (run_in (bare script) text) its.opening) (full_holds (run_in (bare script) text) its.opening) (exports_hold (run_in (bare script) text) its.opening) (upkeep_holds (run_in (bare script) text) its.opening) (reads_last (run_in (bare script) text) its.opening) sound in
+      let sound : is_sound (run_in script text) its.opening ≡ true = all-among (is_sound (run_in script text)) its.opening entries first explained.replies in
+      let shown : snapshot_numbers_hold (run_in script text) its.opening ≡ true = second-of (commit_numbers_hold (run_in script text) its.opening) (snapshot_numbers_hold (run_in script text) its.opening) (reads_hold (run_in script text) its.opening) (writes_hold (run_in script text) its.opening) (conflicts_hold (run_in script text) its.opening)
+      (freezing_holds (run_in script text) its.opening) (full_holds (run_in script text) its.opening) (exports_hold (run_in script text) its.opening) (upkeep_holds (run_in script text) its.opening) (reads_last (run_in script text) its.opening) sound in
       let low : nat_lt its.number number ≡ true = shown-among number (is_before its.opening) ending entries (printed entries t its ending of) (before-own its.opening ending ahead stands.1) (ap commit_in is) its.number
-      (below (run_in (bare script) text) its.opening its.opening.reply.said its.number its.opens shown) in
+      (below (run_in script text) its.opening its.opening.reply.said its.number its.opens shown) in
       let at : t.snapshot ≡ its.number = ap (λ (u : Span). u.snapshot) its.span in
       grind (arith, nat_tests, low, at)
 
-  pub commits_as : (ending : Entry) (number : ℕ) → ending_of t ≡ Some ending → ending.reply.said ≡ said.Committed (Some number) → CommitsAs (run_in (bare script) text) t number
+  pub commits_as : (ending : Entry) (number : ℕ) → ending_of t ≡ Some ending → ending.reply.said ≡ said.Committed (Some number) → CommitsAs (run_in script text) t number
   commits_as ending number ends is =
       let of = found-among ending t.replies ends in
       record { ending = ending; is_of = is_of ending of; ends = ends; said = is; above = above ending number is of }

@@ -1,6 +1,6 @@
 -- Transactions one behind the other: each of an output's transactions as a run of the machine in
 -- which no other is open.
-use Rattle.std.specs.Prelude.{◌≡◌, ℕ, ◌-◌, ◌&&◌, true, ◌==◌, List, [], ◌∷◌, ◌++◌, take}
+use Rattle.std.specs.Prelude.{◌≡◌, ℕ, ◌+◌, ◌-◌, ◌&&◌, true, ◌==◌, List, [], ◌∷◌, ◌++◌, take, All}
 use Rattle.std.specs.Prelude.{filter, filter_map, flat_map, length, is_none, Option, None, Some}
 use Rattle.std.specs.Prelude.{option_map, option_and_then}
 use Rattle.std.specs.List.{range_with_len}
@@ -8,6 +8,7 @@ use Rattle.std.specs.Option.{option_map_or}
 use Rattle.isolation_spec.specs.Contents.{History}
 use Rattle.isolation_spec.specs.Machine.{IsolationMachine}
 use Rattle.isolation_spec.specs.Machine as machine
+use Rattle.isolation_spec.specs.Order.{InOrder}
 use Rattle.isolation_spec.specs.declared.command.Act.{Act}
 use Rattle.isolation_spec.specs.declared.command.Act.TheVariants as act
 use Rattle.isolation_spec.specs.declared.command.Answer.{Answer}
@@ -120,7 +121,8 @@ commit_number t = option_and_then (λ ending. commit_in ending.reply.said) (endi
 -- the one with it.
 abbrev pub ChecksRunAlone : Type 0
 ChecksRunAlone = (script : Script) (text : List ℕ) (t : Span) (number : ℕ)
-    → script.begun ≡ [] → Explained script text → Among t (run_in script text).transactions → is_checked t ≡ true
+    → All InOrder script.begun
+    → Explained script text → Among t (run_in script text).transactions → is_checked t ≡ true
     → commit_number t ≡ Some number
     → Runs (alone (run_in script text).history (number - 1)) (alone_steps t (number - 1))
     (alone (run_in script text).history number)
@@ -128,7 +130,7 @@ ChecksRunAlone = (script : Script) (text : List ℕ) (t : Span) (number : ℕ)
 -- A transaction that left nothing, checked or not, runs alone behind the commits that it saw.
 abbrev pub ReadersRunAlone : Type 0
 ReadersRunAlone = (script : Script) (text : List ℕ) (t : Span)
-    → script.begun ≡ [] → Explained script text → Among t (run_in script text).transactions
+    → Explained script text → Among t (run_in script text).transactions
     → commit_number t ≡ None
     → Runs (alone (run_in script text).history t.snapshot) (alone_steps t t.snapshot)
     (alone (run_in script text).history t.snapshot)
@@ -144,17 +146,18 @@ reader_steps run number = flat_map (λ t. alone_steps t number)
     (filter (λ t. is_none (commit_number t) && t.snapshot == number) run.transactions)
 
 -- All transactions, one behind the other: those that wrote in the order of their numbers, and behind
--- each those that left nothing and saw it last.
+-- each those that left nothing and saw it last; in front those that left nothing and saw just what
+-- the store began with.
 abbrev pub serial_steps : Run → List Step
-serial_steps run = reader_steps run 0
+serial_steps run = reader_steps run (length run.first)
     ++ flat_map (λ number. writer_steps run number ++ reader_steps run number)
-    (range_with_len 1 (length run.history))
+    (range_with_len (length run.first + 1) (length run.history - length run.first))
 
 -- Where each transaction that wrote is checked, an explained output's transactions are one run of
--- the machine, one behind the other, from no commit to all of them.
+-- the machine, one behind the other, from the commits that the store began with to all of them.
 abbrev pub SerialRun : Type 0
-SerialRun = (script : Script) (text : List ℕ) → script.begun ≡ [] → Explained script text
+SerialRun = (script : Script) (text : List ℕ) → All InOrder script.begun → Explained script text
     → ((t : Span) (number : ℕ) → Among t (run_in script text).transactions
     → commit_number t ≡ Some number → is_checked t ≡ true)
-    → Runs machine.opening (serial_steps (run_in script text))
+    → Runs (machine.opening_from script.begun) (serial_steps (run_in script text))
     (record { history = (run_in script text).history; open_transactions = [] })

@@ -1,6 +1,7 @@
 -- What it is that a checked transaction's replies are serial.
-use Rattle.std.specs.Prelude.{◌≡◌, ◌⊎◌, ℕ, ◌-◌, ◌<◌, true, List, [], ◌∷◌, Some}
+use Rattle.std.specs.Prelude.{◌≡◌, ◌⊎◌, ℕ, ◌-◌, ◌<◌, true, List, [], ◌∷◌, Some, All}
 use Rattle.isolation_spec.specs.Contents.{State, laid_over, state_at}
+use Rattle.isolation_spec.specs.Order.{InOrder}
 use Rattle.workload_spec.specs.declared.reply.Said.TheVariants as said
 use Rattle.workload_spec.specs.declared.script.Script.{Script}
 use Rattle.outcome_spec.specs.Answers.{read_holds, is_acceptable}
@@ -40,11 +41,13 @@ pub record IsServed (run : Run) (t : Span) (number : ℕ) (entry : Entry) : Type
   pub write : entry.reply.said ≡ said.Accepted
       → is_acceptable (seen_from run t number entry) entry.command ≡ true
 
--- Over a store that began with nothing: in an explained output a checked transaction that committed with a number is told what it would
+-- In an explained output a checked transaction that committed with a number is told what it would
 -- have been told, had it begun right behind the commit before: each read, and each accepted write.
+-- The write sets of the commits that the store began with, if it began with some, are in order.
 abbrev pub ChecksAreSerial : Type 0
 ChecksAreSerial = (script : Script) (text : List ℕ) (t : Span) (number : ℕ)
-    → script.begun ≡ [] → Explained script text → Among t (run_in script text).transactions → is_checked t ≡ true
+    → All InOrder script.begun
+    → Explained script text → Among t (run_in script text).transactions → is_checked t ≡ true
     → (ending : Entry) → ending_of t ≡ Some ending
     → ending.reply.said ≡ said.Committed (Some number)
     → (entry : Entry) → Among entry t.replies
