@@ -9,3 +9,4 @@ pub mod Commits
 pub mod Capacity
 pub mod Blocks
 pub mod Snapshots
+pub mod Begun

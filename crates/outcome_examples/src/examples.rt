@@ -11,6 +11,8 @@ ghost use Rattle.outcome_examples.specs.Commits.{CommitsAreJudged};
 ghost use Rattle.outcome_examples.specs.Capacity.{CapacityAreJudged};
 ghost use Rattle.outcome_examples.specs.Blocks.{BlocksAreJudged};
 ghost use Rattle.outcome_examples.specs.Snapshots.{SnapshotsAreJudged};
+ghost use Rattle.outcome_examples.specs.Begun.{NumbersAreJudged, ReadsAreJudged};
+ghost use Rattle.outcome_examples.specs.Begun.{StaleReadsAreJudged, WritesAreJudged};
 
 /// Lines that are missing, too many, without their end or spelled otherwise.
 pub fn lines_are_judged()
@@ -56,4 +58,12 @@ pub fn blocks_are_judged()
 /// Snapshot numbers against commits and other numbers, and what a snapshot shows.
 pub fn snapshots_are_judged()
     ensures { SnapshotsAreJudged }
+{}
+
+/// Reads, writes, numbers and stale reads of a store that begins with commits.
+pub fn what_a_store_begins_with_is_judged()
+    ensures reads { ReadsAreJudged }
+    ensures writes { WritesAreJudged }
+    ensures numbers { NumbersAreJudged }
+    ensures stale { StaleReadsAreJudged }
 {}

@@ -2,11 +2,15 @@ pub mod Occurrences
 pub mod Opened
 pub mod Asked
 pub mod Told
+pub mod Commits
 pub mod Traces
 pub mod Calls
 pub mod Ran
+pub mod Histories
 pub mod Handed
 pub mod Examples
 pub mod CheckedExamples
 pub mod RunExamples
 pub mod LendExamples
+pub mod CommitExamples
+pub mod BegunExamples

@@ -1,6 +1,9 @@
 //! Worked examples of calls: each is a fact that the definitions compute.
 ghost use Rattle.run_spec.specs.RunExamples.{ExportsBesideAWorker};
 ghost use Rattle.run_spec.specs.LendExamples.{LendsStandForReads};
+ghost use Rattle.run_spec.specs.BegunExamples.{LinesShowTheFirstRows, LogsBeginBehindCommits};
+ghost use Rattle.run_spec.specs.CommitExamples.{AcceptedWritesAreCommitted, LogsHaveCommits};
+ghost use Rattle.run_spec.specs.CommitExamples.{RefusedCommitsKeepTheWrites, RoundsLeaveHistories};
 ghost use Rattle.run_spec.specs.CheckedExamples.{RangesAreReadInOrder, StaleCommitsEndNothing};
 ghost use Rattle.run_spec.specs.CheckedExamples.{TablesAreReadWhole};
 ghost use Rattle.run_spec.specs.Examples.{GetsTellTheRow, WritesAreTheTransactions};
@@ -85,4 +88,25 @@ pub fn lends_stand_for_reads()
 /// The core of a script.
 pub fn cores_are_of_scripts()
     ensures { CoresAreOfScripts }
+{}
+
+/// A session's commit has the writes that were accepted, each place once, and what was aborted is in
+/// none; one that is refused for a stale read keeps the writes.
+pub fn accepted_writes_are_committed()
+    ensures accepted { AcceptedWritesAreCommitted }
+    ensures refused { RefusedCommitsKeepTheWrites }
+{}
+
+/// The commits of a log stand in its order, behind those that the store began with, and those of a
+/// run round by round.
+pub fn logs_have_commits()
+    ensures log { LogsHaveCommits }
+    ensures rounds { RoundsLeaveHistories }
+{}
+
+/// A log and its lines over a store that begins with commits: the first begin sees them, and reads
+/// the rows that they left.
+pub fn logs_begin_behind_commits()
+    ensures log { LogsBeginBehindCommits }
+    ensures lines { LinesShowTheFirstRows }
 {}

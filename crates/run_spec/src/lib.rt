@@ -2,4 +2,7 @@
 //! made of their replies.
 #![tactic(auto)]
 
+pub mod commit;
 pub mod examples;
+
+pub use commit::Commit;

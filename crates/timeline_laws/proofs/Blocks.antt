@@ -13,8 +13,8 @@ use Rattle.std.proofs.Math.Nat.{le_trans}
 use Rattle.std.proofs.lemmas.List.Sorted.{sum_by-IsPermutation}
 use Rattle.std.proofs.lemmas.List.Sums.{sum_by-cons, sum_by-append, sum_by-le-sum_by}
 use Rattle.cell_model.specs.declared.table.TableDecl.{TableDecl}
-use Rattle.isolation_spec.specs.Contents.{state_at, contents_of, State, WriteSet}
-use Rattle.isolation_spec.specs.Machine.{IsolationMachine, opening, Transaction}
+use Rattle.isolation_spec.specs.Contents.{History, rows_left, state_at, contents_of, State, WriteSet}
+use Rattle.isolation_spec.specs.Machine.{IsolationMachine, opening_from, Transaction}
 use Rattle.workload_spec.specs.declared.command.Command.{Command}
 use Rattle.workload_spec.specs.declared.command.Command.TheVariants as command
 use Rattle.workload_spec.specs.declared.reply.Who.{Who}
@@ -27,7 +27,7 @@ use Rattle.outcome_spec.specs.Tables.{slots_at, blocks_at}
 use Rattle.outcome_spec.specs.Upkeep.{stamp_in, rows_in, seals_in, freezes_in, stamp_count, freezing_reply_holds, freezing_holds, is_accepted_insert, full_reply_holds, full_holds, frozen_blocks, summary_holds, exports_hold, seal_holds, freeze_holds, pruned_in, moved_in, prune_holds, most_moved, upkeep_reply_holds, upkeep_holds, export_reply_holds, exported_table, inserted_table, inserts_in, capacity_at, gathered_block}
 use Rattle.isolation_spec.specs.Contents.{least_key}
 use Rattle.timeline_laws.proofs.Threads.{same-of}
-use Rattle.timeline_spec.specs.Timeline.{open_of, Timeline, Runs, Counts, FindsUnsealed, Exports, ExportsWithin, ExportsBy, Aside, request_of, TakesAs, FindsFull}
+use Rattle.timeline_spec.specs.Timeline.{open_of, TimelineFrom, RunsFrom, CountsFrom, FindsUnsealed, Exports, ExportsWithin, ExportsBy, Aside, request_of, TakesAs, FindsFull}
 use Rattle.outcome_spec.specs.Entries.{thread}
 use Rattle.outcome_spec.specs.Runs.{writes_committed_in}
 use Rattle.outcome_spec.specs.Upkeep.{frozen_blocks}
@@ -97,7 +97,7 @@ stamped-frozen front entry table block rows h seal freeze more =
     }
 
 -- the block of a reply, against one
-module _ (tables : List TableDecl) (front : List Entry) (entry : Entry) (table block : ℕ) (h : Stamped front table block) where
+module _ (start : History) (tables : List TableDecl) (front : List Entry) (entry : Entry) (table block : ℕ) (h : Stamped front table block) where
   -- A seal, of this block or of another, keeps this block's stamps in order.
   sealed-by : (t b g : ℕ) (x y : Bool) → eqb t table ≡ x → eqb b block ≡ y → entry.reply.said ≡ said.Sealed t b g
       → seals_in t b front ≡ freezes_in t b front → g ≡ seals_in t b front + 1 → Stamped (front ++ entry ∷ []) table block
@@ -122,23 +122,23 @@ module _ (tables : List TableDecl) (front : List Entry) (entry : Entry) (table b
   frozen-by t b r false y is_t is_b is more = stamped-still front entry table block h (ap (stamp_in table block) is) (ap (rows_in table block) is ∙ (rw is_t refl))
 
   -- One more reply of a timeline keeps the stamps of each block in order.
-  stamped-step : (told : Said) → entry.reply.said ≡ told → Counts tables front entry.command told → Stamped (front ++ entry ∷ []) table block
+  stamped-step : (told : Said) → entry.reply.said ≡ told → CountsFrom start tables front entry.command told → Stamped (front ++ entry ∷ []) table block
   stamped-step (said.Sealed t b g) is counts = sealed-by t b g (eqb t table) (eqb b block) refl refl is counts.0 counts.1
   stamped-step (said.Frozen t b r) is counts = frozen-by t b r (eqb t table) (eqb b block) refl refl is counts.0
   stamped-step _ is counts = stamped-still front entry table block h (ap (stamp_in table block) is) (ap (rows_in table block) is)
 
 -- the blocks behind each reply
-stamped-from : (tables : List TableDecl) (front : List Entry) (machine : IsolationMachine) (rest : List Entry) → ((table block : ℕ) → Stamped front table block) → Runs tables front machine rest
+stamped-from : (start : History) (tables : List TableDecl) (front : List Entry) (machine : IsolationMachine) (rest : List Entry) → ((table block : ℕ) → Stamped front table block) → RunsFrom start tables front machine rest
     → (table block : ℕ) → Stamped (front ++ rest) table block
-stamped-from tables front machine [] h runs table block = subst (λ (es : List Entry). Stamped es table block) (sym (append-nil front)) (h table block)
-stamped-from tables front machine (entry ∷ rest) h runs table block =
+stamped-from start tables front machine [] h runs table block = subst (λ (es : List Entry). Stamped es table block) (sym (append-nil front)) (h table block)
+stamped-from start tables front machine (entry ∷ rest) h runs table block =
     subst (λ (es : List Entry). Stamped es table block) (append_assoc front (entry ∷ []) rest)
-    (stamped-from tables (front ++ entry ∷ []) runs.0 rest (λ t b. stamped-step tables front entry t b (h t b) entry.reply.said refl runs.2) runs.3 table block)
+    (stamped-from start tables (front ++ entry ∷ []) runs.0 rest (λ t b. stamped-step start tables front entry t b (h t b) entry.reply.said refl runs.2) runs.3 table block)
 
 -- Where replies come about one behind the other, so do the first of them.
-runs-front : (tables : List TableDecl) (past : List Entry) (machine : IsolationMachine) (front rest : List Entry) → Runs tables past machine (front ++ rest) → Runs tables past machine front
-runs-front tables past machine [] rest h = tt
-runs-front tables past machine (entry ∷ front) rest h = (h.0, h.1, h.2, runs-front tables (past ++ entry ∷ []) h.0 front rest h.3)
+runs-front : (start : History) (tables : List TableDecl) (past : List Entry) (machine : IsolationMachine) (front rest : List Entry) → RunsFrom start tables past machine (front ++ rest) → RunsFrom start tables past machine front
+runs-front start tables past machine [] rest h = tt
+runs-front start tables past machine (entry ∷ front) rest h = (h.0, h.1, h.2, runs-front start tables (past ++ entry ∷ []) h.0 front rest h.3)
 
 -- Before any reply the stamps of each block are in order.
 stamped-nothing : (table block : ℕ) → Stamped [] table block
@@ -178,19 +178,19 @@ count-range g n least most =
     ∙ sum_by-append (λ x. cond (eqb x g) 1 0) (range_with_len 1 (g - 1)) (range_with_len (1 + (g - 1)) (1 + (n - g)))
     ∙ count-parts g (1 + (g - 1)) (n - g) (range_with_len 1 (g - 1)) (omega (arith, least)) (all-below g 1 (g - 1) (omega (arith, least)))
 
-module _ (tables : List TableDecl) (printed timeline : List Entry) (t : Timeline tables printed timeline) (entry : Entry) (only : Only printed entry)
-    (cut : Cut tables timeline (last tables printed timeline t) entry) where
+module _ (start : History) (tables : List TableDecl) (printed timeline : List Entry) (t : TimelineFrom start tables printed timeline) (entry : Entry) (only : Only printed entry)
+    (cut : Cut start tables timeline (last start tables printed timeline t) entry) where
   -- The run that is read from the printed replies.
   abbrev the_run : Run
-  the_run = run tables printed timeline t
+  the_run = run start tables printed timeline t
 
   -- sums over the replies before it, and over those not after it
   less-before : (f : Entry → ℕ) → sum_by f (before printed entry) ≤ sum_by f cut.front
-  less-before f = sum-before printed timeline cut.front entry cut.rest (same-of tables printed timeline t) cut.whole t.order f
+  less-before f = sum-before printed timeline cut.front entry cut.rest (same-of start tables printed timeline t) cut.whole t.order f
 
   -- A sum over the replies in front is at most that over those not after.
   more-not_after : (f : Entry → ℕ) → sum_by f cut.front ≤ sum_by f (not_after printed entry)
-  more-not_after f = sum-not_after printed timeline cut.front entry cut.rest (same-of tables printed timeline t) cut.whole t.order f
+  more-not_after f = sum-not_after printed timeline cut.front entry cut.rest (same-of start tables printed timeline t) cut.whole t.order f
 
   -- how many replies show a number
   fewer-shown : (shown : Said → Option ℕ) → length (shown_in shown (before printed entry)) ≤ length (shown_in shown cut.front)
@@ -202,17 +202,19 @@ module _ (tables : List TableDecl) (printed timeline : List Entry) (t : Timeline
 
   -- In front of the reply the stamps of each block are in order.
   front-stamped : (table block : ℕ) → Stamped cut.front table block
-  front-stamped table block = stamped-from tables [] opening cut.front stamped-nothing (runs-front tables [] opening cut.front (entry ∷ cut.rest) (subst (Runs tables [] opening) cut.whole t.runs)) table block
+  front-stamped table block =
+      stamped-from start tables [] (opening_from start) cut.front stamped-nothing
+      (runs-front start tables [] (opening_from start) cut.front (entry ∷ cut.rest) (subst (RunsFrom start tables [] (opening_from start)) cut.whole t.runs)) table block
 
   -- In the whole timeline the stamps of each block are in order.
   whole-stamped : (table block : ℕ) → Stamped timeline table block
-  whole-stamped table block = stamped-from tables [] opening timeline stamped-nothing t.runs table block
+  whole-stamped table block = stamped-from start tables [] (opening_from start) timeline stamped-nothing t.runs table block
 
   -- the stamps that are printed
   printed-stamps : (table block stamp : ℕ) → stamp_count table block stamp printed ≡ stamp_count table block stamp timeline
   printed-stamps table block stamp =
       let f : Entry → ℕ = λ other. option_map_or (λ n. cond (eqb n stamp) 1 0) (stamp_in table block other.reply.said) 0 in
-      counted (λ n. eqb n stamp) (stamp_in table block) printed ∙ sum_by-IsPermutation f timeline printed (same-of tables printed timeline t) ∙ sym (counted (λ n. eqb n stamp) (stamp_in table block) timeline)
+      counted (λ n. eqb n stamp) (stamp_in table block) printed ∙ sum_by-IsPermutation f timeline printed (same-of start tables printed timeline t) ∙ sym (counted (λ n. eqb n stamp) (stamp_in table block) timeline)
 
   -- Each stamp up to the number of a block's seals is printed once.
   once : (table block stamp : ℕ) → 1 ≤ stamp → stamp ≤ seals_in table block timeline → stamp_count table block stamp printed ≡ 1
@@ -223,7 +225,7 @@ module _ (tables : List TableDecl) (printed timeline : List Entry) (t : Timeline
   seals-printed : (table block : ℕ) → seals_in table block printed ≡ seals_in table block timeline
   seals-printed table block =
       let f : Entry → ℕ = λ other. cond (is_some (stamp_in table block other.reply.said)) 1 0 in
-      shown-length (stamp_in table block) printed ∙ sum_by-IsPermutation f timeline printed (same-of tables printed timeline t) ∙ sym (shown-length (stamp_in table block) timeline)
+      shown-length (stamp_in table block) printed ∙ sum_by-IsPermutation f timeline printed (same-of start tables printed timeline t) ∙ sym (shown-length (stamp_in table block) timeline)
 
   -- The seals of a block are those in front and those from the reply on.
   seals-more : (table block : ℕ) → seals_in table block timeline ≡ seals_in table block cut.front + (length (shown_in (stamp_in table block) (entry ∷ cut.rest)))
@@ -243,7 +245,7 @@ module _ (tables : List TableDecl) (printed timeline : List Entry) (t : Timeline
       let in_front : stamp_count table block stamp cut.front ≡ 1 =
       ap (count_by (λ n. eqb n stamp)) (front-stamped table block).stamps ∙ count-range stamp (seals_in table block cut.front) least (omega (arith, seals)) in
       let a : sum_by f cut.front ≤ sum_by f (not_after printed entry) = more-not_after f in
-      let b : sum_by f (not_after printed entry) ≤ sum_by f printed = sum-at-most printed timeline cut.front entry cut.rest (same-of tables printed timeline t) cut.whole t.order f (λ other. is_not_after other entry) in
+      let b : sum_by f (not_after printed entry) ≤ sum_by f printed = sum-at-most printed timeline cut.front entry cut.rest (same-of start tables printed timeline t) cut.whole t.order f (λ other. is_not_after other entry) in
       let c : stamp_count table block stamp cut.front ≡ sum_by f cut.front = counted (λ n. eqb n stamp) (stamp_in table block) cut.front in
       let d : stamp_count table block stamp (not_after printed entry) ≡ sum_by f (not_after printed entry) = counted (λ n. eqb n stamp) (stamp_in table block) (not_after printed entry) in
       let e : stamp_count table block stamp printed ≡ sum_by f printed = counted (λ n. eqb n stamp) (stamp_in table block) printed in
@@ -254,7 +256,7 @@ module _ (tables : List TableDecl) (printed timeline : List Entry) (t : Timeline
       (same_number (stamp_count table block stamp printed) 1 in_all) (same_number (stamp_count table block stamp (not_after printed entry)) 1 not_later) less
 
   -- The rule of freezing holds of whatever the reply tells at its place.
-  freezing-by : (told : Said) → Counts tables cut.front entry.command told → freezing_reply_holds the_run entry told ≡ true
+  freezing-by : (told : Said) → CountsFrom start tables cut.front entry.command told → freezing_reply_holds the_run entry told ≡ true
   freezing-by (said.Freezing table block stamp) counts = freezing-at table block stamp counts.0 counts.1
   freezing-by _ counts = refl
 
@@ -265,17 +267,17 @@ module _ (tables : List TableDecl) (printed timeline : List Entry) (t : Timeline
   -- ---- full tables
 
   -- Where a table is found full, enough accepted inserts are not after the reply.
-  full-of : (asked : Command) → FindsFull [] tables cut.front asked
-      → option_map_or (λ table. nat_le (capacity_at tables table) (0 + inserts_in table (not_after printed entry))) (inserted_table asked) true ≡ true
+  full-of : (asked : Command) → FindsFull start tables cut.front asked
+      → option_map_or (λ table. nat_le (capacity_at tables table) (length (rows_left start table) + inserts_in table (not_after printed entry))) (inserted_table asked) true ≡ true
   full-of (command.Insert table row) counts =
       let f : Entry → ℕ = λ other. cond (is_accepted_insert table other.command other.reply.said) 1 0 in
       let more : sum_by f cut.front ≤ sum_by f (not_after printed entry) = more-not_after f in
-      let least : capacity_at tables table ≤ 0 + sum_by f cut.front = counts in
-      at_most (capacity_at tables table) (0 + sum_by f (not_after printed entry)) (omega (arith, least, more))
+      let least : capacity_at tables table ≤ length (rows_left start table) + sum_by f cut.front = counts in
+      at_most (capacity_at tables table) (length (rows_left start table) + sum_by f (not_after printed entry)) (omega (arith, least, more))
   full-of _ counts = refl
 
   -- The rule of full tables holds of whatever the reply tells at its place.
-  full-by : (told : Said) → Counts tables cut.front entry.command told → full_reply_holds the_run entry told ≡ true
+  full-by : (told : Said) → CountsFrom start tables cut.front entry.command told → full_reply_holds the_run entry told ≡ true
   full-by said.Full counts = full-of entry.command counts
   full-by _ counts = refl
 
@@ -297,16 +299,16 @@ module _ (tables : List TableDecl) (printed timeline : List Entry) (t : Timeline
 
   module _ (o : Transaction) (at : open_of entry.reply.who cut.machine ≡ Some o) (within : Within entry.reply.who (thread entry.reply.who cut.front) o) where
     abbrev its : Span
-    its = belongs tables printed timeline t entry only cut o within
+    its = belongs start tables printed timeline t entry only cut o within
 
     own-is : writes_in (before its.replies entry) ≡ o.own
-    own-is = ap writes_in (before-is tables printed timeline t entry only cut o within) ∙ within.writes_are
+    own-is = ap writes_in (before-is start tables printed timeline t entry only cut o within) ∙ within.writes_are
 
     summary-at : (table number rows batches frozen : ℕ) → Exports tables cut.front cut.machine o table number rows batches frozen → summary_holds the_run its entry table number rows batches frozen ≡ true
     summary-at table number rows batches frozen h =
-        let bound : number ≤ length (cut.machine).history = omega (arith, h.snapshot, bound-is tables printed timeline t entry only cut o at) in
+        let bound : number ≤ length (cut.machine).history = omega (arith, h.snapshot, bound-is start tables printed timeline t entry only cut o at) in
         let rows_are : rows ≡ length (contents_of table (state_at (the_run).history number)) =
-        h.rows_are ∙ ap (λ (n : ℕ). length (contents_of table (state_at (cut.machine).history n))) (sym h.snapshot) ∙ ap (λ (s : State). length (contents_of table s)) (sym (state-is tables printed timeline t entry only cut number bound)) in
+        h.rows_are ∙ ap (λ (n : ℕ). length (contents_of table (state_at (cut.machine).history n))) (sym h.snapshot) ∙ ap (λ (s : State). length (contents_of table s)) (sym (state-is start tables printed timeline t entry only cut number bound)) in
         let a : frozen ≤ batches = h.images in
         let b : batches ≤ rows = h.some_rows in
         let c : rows ≤ batches * slots_at tables table = h.full_blocks in
@@ -338,7 +340,7 @@ module _ (tables : List TableDecl) (printed timeline : List Entry) (t : Timeline
   -- Exports.
   pub exports : exports_hold the_run entry ≡ true
   exports =
-      by-transaction tables printed timeline t entry only cut (λ u. export_by u entry.command)
+      by-transaction start tables printed timeline t entry only cut (λ u. export_by u entry.command)
       (λ o at within. export-takes o at within entry.reply.who entry.command at refl refl cut.takes)
       (λ u checked is_asked is. ap (λ (asked : Command). export_by u asked) is_asked)
       (open_of entry.reply.who cut.machine) refl cut.change
@@ -391,7 +393,7 @@ module _ (tables : List TableDecl) (printed timeline : List Entry) (t : Timeline
 
   -- The rules of upkeep hold of whatever the reply tells at its place.
   upkeep-by : writes_committed_in cut.front ≤ writes_committed_in (not_after printed entry)
-      → (told : Said) → entry.reply.said ≡ told → Counts tables cut.front entry.command told → upkeep_reply_holds the_run entry told ≡ true
+      → (told : Said) → entry.reply.said ≡ told → CountsFrom start tables cut.front entry.command told → upkeep_reply_holds the_run entry told ≡ true
   upkeep-by committed (said.Sealed table block stamp) is counts = seal-at table block stamp is counts.0 counts.1
   upkeep-by committed (said.Frozen table block rows) is counts = freeze-at table block rows counts.0 counts.1 counts.2
   upkeep-by committed said.NotFrozen is counts = idle-of entry.command counts
@@ -401,4 +403,4 @@ module _ (tables : List TableDecl) (printed timeline : List Entry) (t : Timeline
 
   -- Upkeep.
   pub upkeep : upkeep_holds the_run entry ≡ true
-  upkeep = upkeep-by (committed-in_front tables printed timeline t entry only cut) entry.reply.said refl cut.counts
+  upkeep = upkeep-by (committed-in_front start tables printed timeline t entry only cut) entry.reply.said refl cut.counts

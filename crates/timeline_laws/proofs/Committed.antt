@@ -5,12 +5,13 @@ use Rattle.std.specs.List.{filter, find, sum_by}
 use Rattle.std.proofs.lemmas.List.Sums.{sum_by-cons, sum_by-append}
 use Rattle.std.proofs.lemmas.List.Filters.{sum_by-filter_both}
 use Rattle.cell_model.specs.declared.table.TableDecl.{TableDecl}
+use Rattle.isolation_spec.specs.Contents.{History}
 use Rattle.isolation_spec.specs.Machine.{Transaction}
 use Rattle.workload_spec.specs.declared.reply.Who.{Who}
 use Rattle.outcome_spec.specs.Entries.{Entry, is_same, is_not_after, not_after, is_end}
 use Rattle.outcome_spec.specs.Runs.{Span, up_to_end, transactions_of, writes_committed}
 use Rattle.std.proofs.lemmas.List.Elements.{filter-append}
-use Rattle.timeline_spec.specs.Timeline.{open_of, Each, Follows, Timeline}
+use Rattle.timeline_spec.specs.Timeline.{open_of, Each, Follows, TimelineFrom}
 use Rattle.outcome_spec.specs.Entries.{thread}
 use Rattle.outcome_spec.specs.Runs.{writes_committed_in}
 use Rattle.timeline_laws.proofs.Order.{Each-weaker, Each-filter, same-is, same-itself}
@@ -123,8 +124,8 @@ filters-turned : (p q : Entry → Bool) (entries : List Entry) → filter p (fil
 filters-turned p q [] = refl
 filters-turned p q (entry ∷ entries) = filters-turned-step p q (p entry) (q entry) entry entries refl refl (filters-turned p q entries)
 
-module _ (tables : List TableDecl) (printed timeline : List Entry) (t : Timeline tables printed timeline) (entry : Entry) (only : Only printed entry)
-    (cut : Cut tables timeline (last tables printed timeline t) entry) where
+module _ (start : History) (tables : List TableDecl) (printed timeline : List Entry) (t : TimelineFrom start tables printed timeline) (entry : Entry) (only : Only printed entry)
+    (cut : Cut start tables timeline (last start tables printed timeline t) entry) where
   -- Whether another reply is not after the reply.
   abbrev kept : Entry → Bool
   kept other = is_not_after other entry
@@ -133,12 +134,12 @@ module _ (tables : List TableDecl) (printed timeline : List Entry) (t : Timeline
   not-after-it : (who : Who) → Each (λ e. kept e ≡ true) (thread who cut.front)
   not-after-it who =
       Each-filter (λ e. kept e ≡ true) (λ e. is_same e.reply.who who) cut.front
-      (Each-weaker (λ earlier. Follows earlier entry) (λ e. kept e ≡ true) (λ e follows. ap not follows.not_before) cut.front (front-follows tables printed timeline t entry only cut))
+      (Each-weaker (λ earlier. Follows earlier entry) (λ e. kept e ≡ true) (λ e follows. ap not follows.not_before) cut.front (front-follows start tables printed timeline t entry only cut))
 
   -- what is not after the reply begins with what is in front of it
   begins-with-front : (who : Who) → thread who (not_after printed entry) ≡ thread who cut.front ++ filter kept (thread who (entry ∷ cut.rest))
   begins-with-front who =
-      let here = at-cut tables printed timeline t entry only cut in
+      let here = at-cut start tables printed timeline t entry only cut in
       filters-turned (λ other. is_same other.reply.who who) kept printed
       ∙ ap (filter kept) (its-thread printed timeline cut.front entry cut.rest here who)
       ∙ filter-append kept (thread who cut.front) (thread who (entry ∷ cut.rest))

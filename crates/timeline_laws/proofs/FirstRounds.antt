@@ -8,7 +8,8 @@ use Rattle.std.proofs.lemmas.List.{length_push}
 use Rattle.std.proofs.lemmas.List.Folds.{list_all-append}
 use Rattle.std.proofs.lemmas.List.Sums.{sum_by-append, sum_by-cons}
 use Rattle.cell_model.specs.declared.table.TableDecl.{TableDecl}
-use Rattle.isolation_spec.specs.Machine.{opening}
+use Rattle.isolation_spec.specs.Contents.{History}
+use Rattle.isolation_spec.specs.Machine.{opening_from}
 use Rattle.workload_spec.specs.Valid.{is_valid, is_line, is_export, all_lines, has_head}
 use Rattle.workload_spec.specs.declared.command.Command.{Command}
 use Rattle.workload_spec.specs.declared.reply.Said.{Said}
@@ -20,14 +21,14 @@ use Rattle.outcome_spec.specs.Forms.{Due, commands_of, dues_in, dues_of, dues_to
 use Rattle.timeline_spec.specs.Forms.{AllMayStand}
 use Rattle.timeline_spec.specs.Fronts.{lines_up_to}
 use Rattle.timeline_spec.specs.Printed.{printed_from, printed_of}
-use Rattle.timeline_spec.specs.Timeline.{Runs}
+use Rattle.timeline_spec.specs.Timeline.{RunsFrom}
 use Rattle.timeline_laws.specs.Fronts.{FrontRuns, RoundsAreDueFirst, RoundsAreValid, FrontIsDueFirst, FrontIsValid, FrontIsExplained}
 use Rattle.timeline_laws.proofs.Scripts.{in-turn-explained}
 
 -- The first replies of a run.
 pub runs-front : FrontRuns
-runs-front tables front machine [] rest runs = tt
-runs-front tables front machine (entry ∷ first) rest runs = (runs.0, runs.1, runs.2, runs-front tables (front ++ entry ∷ []) runs.0 first rest runs.3)
+runs-front begun tables front machine [] rest runs = tt
+runs-front begun tables front machine (entry ∷ first) rest runs = (runs.0, runs.1, runs.2, runs-front begun tables (front ++ entry ∷ []) runs.0 first rest runs.3)
 
 -- the printed replies to what is due first, and behind them the others
 printed-first : (tables : List TableDecl) (earlier : List Entry) (dues rest : List Due) (told later : List (Option Said)) → AllMayStand dues told
@@ -43,12 +44,15 @@ printed-first tables earlier (due ∷ dues) rest (Some said ∷ told) later h =
 
 -- The front of a run is explained.
 pub front-explained : FrontIsExplained
-front-explained script part told later valid none same first may runs =
+front-explained script part told later valid commits begun same first may runs =
     let printed = printed-first script.tables [] (dues_of part) first.0 told later may in
     let whole : printed_of script (told ++ later) ≡ printed_from script.tables [] (dues_of part) told ++ printed.0 =
     ap (λ (dues : List Due). printed_from script.tables [] dues (told ++ later)) first.1 ∙ printed.1 in
-    let front = runs-front script.tables [] opening (printed_from script.tables [] (dues_of part) told) printed.0 (subst (Runs script.tables [] opening) whole runs) in
-    in-turn-explained part told valid none may (subst (λ (tables : List TableDecl). Runs tables [] opening (printed_from tables [] (dues_of part) told)) (sym same) front)
+    let opening = opening_from script.begun in
+    let front = runs-front script.begun script.tables [] opening (printed_from script.tables [] (dues_of part) told) printed.0 (subst (RunsFrom script.begun script.tables [] opening) whole runs) in
+    let of_tables = subst (λ (tables : List TableDecl). RunsFrom script.begun tables [] opening (printed_from tables [] (dues_of part) told)) (sym same) front in
+    in-turn-explained part told valid commits may
+    (subst (λ (first : History). RunsFrom first part.tables [] (opening_from first) (printed_of part told)) (sym begun) of_tables)
 
 -- ---- the first rounds
 

@@ -10,8 +10,8 @@ use Rattle.std.specs.Ordering.{int_eq}
 use Rattle.cell_model.specs.declared.cell.Cell.{Cell}
 use Rattle.cell_model.specs.declared.table.TableDecl.{TableDecl}
 use Rattle.cell_model.specs.Rows.{fits}
-use Rattle.isolation_spec.specs.Contents.{State, WriteSet, at_place, place_at, place_of, state_at}
-use Rattle.isolation_spec.specs.Machine.{IsolationMachine, Transaction, commit, entered, opening, seen_rows, step, step_of, transaction_of}
+use Rattle.isolation_spec.specs.Contents.{History, State, WriteSet, at_place, place_at, place_of, state_at}
+use Rattle.isolation_spec.specs.Machine.{IsolationMachine, Transaction, commit, entered, opening_from, seen_rows, step, step_of, transaction_of}
 use Rattle.isolation_spec.specs.Checked.{step_with, stale_of}
 use Rattle.isolation_spec.specs.Reads.{ReadSet}
 use Rattle.isolation_spec.specs.declared.read.Read.{Read}
@@ -35,7 +35,7 @@ use Rattle.outcome_spec.specs.Stale.{is_read, read_asked, read_told, reads_told,
 use Rattle.outcome_spec.specs.Runs.{write_of}
 use Rattle.outcome_spec.specs.Tables.{columns_at}
 use Rattle.timeline_spec.specs.Timeline.{stale_of as stale_named}
-use Rattle.timeline_spec.specs.Timeline.{Aside, Each, Runs, TakesAs, Tells, Timeline, request_of, said_of}
+use Rattle.timeline_spec.specs.Timeline.{Aside, Each, RunsFrom, TakesAs, Tells, TimelineFrom, request_of, said_of}
 use Rattle.timeline_laws.proofs.Cuts.{change-of}
 use Rattle.timeline_laws.proofs.Order.{Each-append, Each-filter, Each-second, Each-printed, Each-timeline}
 use Rattle.timeline_laws.proofs.Lasts.{one-among}
@@ -229,7 +229,7 @@ module _ (tables : List TableDecl) where
   printed-table (read.Table table) = refl
   printed-table (read.Range table low high) = refl
 
-  module _ (named : AreNamed) (front : List Entry) (machine : IsolationMachine) (shown : Shown front machine) (valid : Each (λ entry. is_command tables entry.command ≡ true) front) (session : ℕ) where
+  module _ (start : History) (named : AreNamed) (front : List Entry) (machine : IsolationMachine) (shown : Shown start front machine) (valid : Each (λ entry. is_command tables entry.command ≡ true) front) (session : ℕ) where
     -- The read set of what the session has open, as its replies tell it.
     abbrev its_reads : Option ReadSet
     its_reads = reads_after (thread (Session session) front)
@@ -266,56 +266,57 @@ module _ (tables : List TableDecl) where
         (refused-fits t stale at (refused-is machine t t.own its_reads stale refl (sym (stale-open machine its_reads session t at) ∙ is)))
 
   -- A reply that comes about tells rows that fit what its command asks.
-  takes-fits : AreNamed → (front : List Entry) (machine : IsolationMachine) (entry : Entry) (after : IsolationMachine) (who : Who) (asked : Command) → Shown front machine
+  takes-fits : (start : History) → AreNamed → (front : List Entry) (machine : IsolationMachine) (entry : Entry) (after : IsolationMachine) (who : Who) (asked : Command) → Shown start front machine
       → Each (λ entry. is_command tables entry.command ≡ true) front → entry.reply.who ≡ who → entry.command ≡ asked → Kept machine
       → TakesAs tables front machine entry after (request_of who asked) → RowsFit tables asked entry.reply.said
-  takes-fits named front machine entry after (Session session) (command.Get table key) shown valid is_who is k h =
+  takes-fits start named front machine entry after (Session session) (command.Get table key) shown valid is_who is k h =
       outcome-fits (reads_after (thread entry.reply.who front)) (command.Get table key) (act.Get table key) machine session (step machine (asks session (act.Get table key))).0 entry.reply.said after refl
       (get-fits machine session table key k (transaction_of session machine) refl) (λ t b g. tt) tt tt h.outcome h.tells h.allows
-  takes-fits named front machine entry after (Session session) (command.Scan table) shown valid is_who is k h =
+  takes-fits start named front machine entry after (Session session) (command.Scan table) shown valid is_who is k h =
       outcome-fits (reads_after (thread entry.reply.who front)) (command.Scan table) (act.Scan table) machine session (step machine (asks session (act.Scan table))).0 entry.reply.said after refl
       (scan-fits machine session table k (transaction_of session machine) refl) (λ t b g. tt) tt tt h.outcome h.tells h.allows
-  takes-fits named front machine entry after (Session session) (command.Range table low high) shown valid is_who is k h =
+  takes-fits start named front machine entry after (Session session) (command.Range table low high) shown valid is_who is k h =
       outcome-fits (reads_after (thread entry.reply.who front)) (command.Range table low high) (act.Range table low high) machine session (step machine (asks session (act.Range table low high))).0 entry.reply.said after refl
       (range-fits machine session table low high k (transaction_of session machine) refl) (λ t b g. tt) tt tt h.outcome h.tells h.allows
-  takes-fits named front machine entry after (Session session) command.Commit shown valid is_who is k h =
+  takes-fits start named front machine entry after (Session session) command.Commit shown valid is_who is k h =
       let reads : reads_after (thread entry.reply.who front) ≡ reads_after (thread (Session session) front) = ap (λ (w : Who). reads_after (thread w front)) is_who in
       let its = reads_after (thread (Session session) front) in
       outcome-fits its command.Commit act.Commit machine session (step_with machine its (asks session act.Commit)).0 entry.reply.said after refl
-      (commit-fits named front machine shown valid session (stale_of machine its session act.Commit) (transaction_of session machine) refl refl)
+      (commit-fits start named front machine shown valid session (stale_of machine its session act.Commit) (transaction_of session machine) refl refl)
       (λ t b g. tt) tt tt h.outcome h.tells (subst (λ (r : Option ReadSet). Allows machine r (asks session act.Commit) h.outcome after) reads h.allows)
-  takes-fits named front machine entry after (Worker worker) (command.Get table key) shown valid is_who is k h =
+  takes-fits start named front machine entry after (Worker worker) (command.Get table key) shown valid is_who is k h =
       let aside : Aside tables front machine entry.reply.who (command.Get table key) entry.reply.said = subst (λ (c : Command). Aside tables front machine entry.reply.who c entry.reply.said) is h.0 in
       absurd (let e : false ≡ true = aside.0 in let never : ⊥ = cc in never)
-  takes-fits named front machine entry after (Worker worker) (command.Scan table) shown valid is_who is k h =
+  takes-fits start named front machine entry after (Worker worker) (command.Scan table) shown valid is_who is k h =
       let aside : Aside tables front machine entry.reply.who (command.Scan table) entry.reply.said = subst (λ (c : Command). Aside tables front machine entry.reply.who c entry.reply.said) is h.0 in
       absurd (let e : false ≡ true = aside.0 in let never : ⊥ = cc in never)
-  takes-fits named front machine entry after (Worker worker) (command.Range table low high) shown valid is_who is k h =
+  takes-fits start named front machine entry after (Worker worker) (command.Range table low high) shown valid is_who is k h =
       let aside : Aside tables front machine entry.reply.who (command.Range table low high) entry.reply.said = subst (λ (c : Command). Aside tables front machine entry.reply.who c entry.reply.said) is h.0 in
       absurd (let e : false ≡ true = aside.0 in let never : ⊥ = cc in never)
-  takes-fits named front machine entry after (Worker worker) command.Commit shown valid is_who is k h =
+  takes-fits start named front machine entry after (Worker worker) command.Commit shown valid is_who is k h =
       let aside : Aside tables front machine entry.reply.who command.Commit entry.reply.said = subst (λ (c : Command). Aside tables front machine entry.reply.who c entry.reply.said) is h.0 in
       absurd (let e : false ≡ true = aside.0 in let never : ⊥ = cc in never)
-  takes-fits named front machine entry after who _ shown valid is_who is k h = tt
+  takes-fits start named front machine entry after who _ shown valid is_who is k h = tt
 
   -- ---- along a timeline
 
   -- Replies that come about one behind the other tell rows that fit their commands.
-  rows-fit : AreNamed → (front : List Entry) (machine : IsolationMachine) (rest : List Entry) → Shown front machine → Kept machine
+  rows-fit : (start : History) → AreNamed → (front : List Entry) (machine : IsolationMachine) (rest : List Entry) → Shown start front machine → Kept machine
       → Each (λ entry. is_command tables entry.command ≡ true) front → Each (λ entry. is_command tables entry.command ≡ true) rest
-      → Runs tables front machine rest → Each (λ entry. RowsFit tables entry.command entry.reply.said) rest
-  rows-fit named front machine [] shown k before valid runs = tt
-  rows-fit named front machine (entry ∷ rest) shown k before valid runs =
+      → RunsFrom start tables front machine rest → Each (λ entry. RowsFit tables entry.command entry.reply.said) rest
+  rows-fit start named front machine [] shown k before valid runs = tt
+  rows-fit start named front machine (entry ∷ rest) shown k before valid runs =
       let change = change-of tables front machine runs.0 entry shown.sane runs.1 in (
-        takes-fits named front machine entry runs.0 entry.reply.who entry.command shown before refl refl k runs.1,
-        rows-fit named (front ++ entry ∷ []) runs.0 rest (shown-step front machine runs.0 entry shown change)
+        takes-fits start named front machine entry runs.0 entry.reply.who entry.command shown before refl refl k runs.1,
+        rows-fit start named (front ++ entry ∷ []) runs.0 rest (shown-step start front machine runs.0 entry shown change)
             (kept-change entry.reply.who entry.command entry.reply.said machine runs.0 valid.0 k change) (Each-append (λ entry. is_command tables entry.command ≡ true) front (entry ∷ []) before (valid.0, tt)) valid.1 runs.3,
       )
 
-  -- Rows that are found and scanned in a timeline are rows of their tables, where its commands are.
-  pub printed-rows-fit : AreNamed → (printed timeline : List Entry) → Timeline tables printed timeline → Each (λ entry. is_command tables entry.command ≡ true) printed
+  -- Rows that are found and scanned in a timeline are rows of their tables, where its commands and the
+  -- rows of the commits that its store began with are.
+  pub printed-rows-fit : (start : History) → AllWritten tables start → AreNamed → (printed timeline : List Entry) → TimelineFrom start tables printed timeline → Each (λ entry. is_command tables entry.command ≡ true) printed
       → Each (λ entry. RowsFit tables entry.command entry.reply.said) printed
-  printed-rows-fit named printed timeline t valid =
+  printed-rows-fit start first named printed timeline t valid =
       Each-printed (λ entry. RowsFit tables entry.command entry.reply.said) printed timeline t.threads
-      (rows-fit named [] opening timeline shown-opening (record { history = tt; own = tt }) tt
+      (rows-fit start named [] (opening_from start) timeline (shown-opening start) (record { history = first; own = tt }) tt
       (Each-timeline (λ entry. is_command tables entry.command ≡ true) printed timeline t.threads valid) t.runs)

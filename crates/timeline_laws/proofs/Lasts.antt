@@ -9,7 +9,7 @@ use Rattle.std.proofs.lemmas.List.Elements.{All-weaker, filter_map-append}
 use Rattle.cell_model.specs.declared.cell.Cell.{Cell}
 use Rattle.cell_model.specs.declared.table.TableDecl.{TableDecl}
 use Rattle.isolation_spec.specs.Checked.{step_with, stale_of, stale_read}
-use Rattle.isolation_spec.specs.Contents.{WriteSet, at_place, place_at, contents_of, contents_between, numbers_between}
+use Rattle.isolation_spec.specs.Contents.{History, WriteSet, at_place, place_at, contents_of, contents_between, numbers_between}
 use Rattle.isolation_spec.specs.Machine.{IsolationMachine, Transaction, transaction_of, seen_rows, step_of, commit, told_total}
 use Rattle.isolation_spec.specs.Reads.{ReadSet, meets, reads_in, last_meeting}
 use Rattle.isolation_spec.specs.Store.{Outcome, Answered, Freezing, Full, Memory, Allows}
@@ -32,7 +32,7 @@ use Rattle.outcome_spec.specs.Entries.{Entry, thread, before, snapshot_in, is_en
 use Rattle.outcome_spec.specs.Runs.{Run, Span, up_to_end, accepted_write, write_of}
 use Rattle.outcome_spec.specs.Answers.{is_acceptable}
 use Rattle.outcome_spec.specs.Stale.{is_checked, is_read, read_of, read_told, reads_told, meeting, names_meeting, stale_read_holds, reads_stand, stale_holds, reads_last, reads_after, begins_checked}
-use Rattle.timeline_spec.specs.Timeline.{open_of, Timeline, said_of, stale_of as stale_named, Tells, request_of, TakesAs, Aside, ExportsBy, is_of_upkeep}
+use Rattle.timeline_spec.specs.Timeline.{open_of, TimelineFrom, said_of, stale_of as stale_named, Tells, request_of, TakesAs, Aside, ExportsBy, is_of_upkeep}
 use Rattle.timeline_laws.proofs.Tests.{or-false, all-four}
 use Rattle.timeline_laws.proofs.Unique.{Only}
 use Rattle.timeline_laws.proofs.ReadSets.{ReadsAre, opens_checked, read-itself, told-pass}
@@ -42,7 +42,7 @@ use Rattle.timeline_laws.proofs.Walk.{Within}
 use Rattle.timeline_laws.proofs.Cuts.{Cut}
 use Rattle.timeline_laws.proofs.Histories.{run, last}
 use Rattle.timeline_laws.proofs.Numbers.{wrote-by}
-use Rattle.timeline_laws.proofs.Views.{belongs, before-is, bound-is, by-transaction}
+use Rattle.timeline_laws.proofs.Views.{began-is, belongs, before-is, bound-is, by-transaction}
 use Rattle.timeline_laws.proofs.Rivals.{last-named, first-number}
 
 -- ---- replies that tell of no commit
@@ -113,15 +113,15 @@ one-among what front rest =
     list_any-append (is_read what) front (what ∷ rest)
     ∙ or_right (list_any (is_read what) front) (list_any (is_read what) (what ∷ rest)) (or_left (is_read what what) (list_any (is_read what) rest) (read-itself what))
 
-module _ (tables : List TableDecl) (printed timeline : List Entry) (t : Timeline tables printed timeline) (entry : Entry) (only : Only printed entry)
-    (cut : Cut tables timeline (last tables printed timeline t) entry) (o : Transaction) (at : open_of entry.reply.who cut.machine ≡ Some o) (within : Within entry.reply.who (thread entry.reply.who cut.front) o) where
+module _ (start : History) (tables : List TableDecl) (printed timeline : List Entry) (t : TimelineFrom start tables printed timeline) (entry : Entry) (only : Only printed entry)
+    (cut : Cut start tables timeline (last start tables printed timeline t) entry) (o : Transaction) (at : open_of entry.reply.who cut.machine ≡ Some o) (within : Within entry.reply.who (thread entry.reply.who cut.front) o) where
   -- The run that is read from all printed replies.
   abbrev all_run : Run
-  all_run = run tables printed timeline t
+  all_run = run start tables printed timeline t
 
   -- The transaction that the reply belongs to.
   abbrev its_own : Span
-  its_own = belongs tables printed timeline t entry only cut o within
+  its_own = belongs start tables printed timeline t entry only cut o within
 
   -- The read set that its replies in front tell.
   abbrev its_reads : Option ReadSet
@@ -129,7 +129,7 @@ module _ (tables : List TableDecl) (printed timeline : List Entry) (t : Timeline
 
   -- Its replies before this one are those in front.
   in-front : before its_own.replies entry ≡ within.replies
-  in-front = before-is tables printed timeline t entry only cut o within
+  in-front = before-is start tables printed timeline t entry only cut o within
 
   -- A stale commit may be named so.
   stale-named : (stale : Read × ℕ) → Refused cut.machine o its_reads stale → stale_read_holds all_run its_own entry stale.0 stale.1 ≡ true
@@ -144,7 +144,7 @@ module _ (tables : List TableDecl) (printed timeline : List Entry) (t : Timeline
       let told : list_any (is_read stale.0) (reads_told (before its_own.replies entry)) ≡ true =
       ap (λ (es : List Entry). list_any (is_read stale.0) (reads_told es)) in-front ∙ sym (its.1 stale.0) ∙ ap (list_any (is_read stale.0)) r.found.among ∙ one-among stale.0 r.found.front r.found.rest in
       let named : names_meeting all_run its_own stale.0 entry stale.1 ≡ true =
-      last-named tables printed timeline t entry only cut its_own (meets stale.0) (meets-none stale.0) stale.1 (bound-is tables printed timeline t entry only cut o at)
+      last-named start tables printed timeline t entry only cut its_own (meets stale.0) (meets-none stale.0) stale.1 (began-is start tables printed timeline t entry only cut o at) (bound-is start tables printed timeline t entry only cut o at)
       (sym (last-commit cut.machine.history o.snapshot (meets stale.0)) ∙ r.found.last) in
       all-four (is_checked its_own) (list_any (λ other. is_some (accepted_write other)) (before its_own.replies entry)) (list_any (is_read stale.0) (reads_told (before its_own.replies entry)))
       (names_meeting all_run its_own stale.0 entry stale.1) checked wrote told named
@@ -156,7 +156,7 @@ module _ (tables : List TableDecl) (printed timeline : List Entry) (t : Timeline
   -- A read that no commit behind the snapshot met is met by none below the next number.
   unmet-stands : (what : Read) → last_meeting cut.machine.history o.snapshot what ≡ None → list_all (nat_le next) (meeting all_run its_own what) ≡ true
   unmet-stands what none =
-      first-number tables printed timeline t its_own (meets what) (meets-none what) cut.machine.history cut.grows (sym (last-commit cut.machine.history o.snapshot (meets what)) ∙ none)
+      first-number start tables printed timeline t its_own (meets what) (meets-none what) cut.machine.history cut.grows (sym (last-commit cut.machine.history o.snapshot (meets what)) ∙ none)
 
   module _ (asked_is : entry.command ≡ command.Commit) (number : Option ℕ) (said_is : entry.reply.said ≡ said.Committed number) where
     -- A commit is the last of its transaction's replies.
@@ -265,12 +265,12 @@ module _ (tables : List TableDecl) (printed timeline : List Entry) (t : Timeline
       let aside : Aside tables cut.front cut.machine entry.reply.who asked entry.reply.said = subst (λ (c : Command). Aside tables cut.front cut.machine entry.reply.who c entry.reply.said) is h.0 in
       untold (upkeep-untold entry.reply.said aside.1)
 
-module _ (tables : List TableDecl) (printed timeline : List Entry) (t : Timeline tables printed timeline) (entry : Entry) (only : Only printed entry)
-    (cut : Cut tables timeline (last tables printed timeline t) entry) where
+module _ (start : History) (tables : List TableDecl) (printed timeline : List Entry) (t : TimelineFrom start tables printed timeline) (entry : Entry) (only : Only printed entry)
+    (cut : Cut start tables timeline (last start tables printed timeline t) entry) where
   -- Reads of checked transactions.
-  pub reads-last : reads_last (run tables printed timeline t) entry ≡ true
+  pub reads-last : reads_last (run start tables printed timeline t) entry ≡ true
   reads-last =
-      by-transaction tables printed timeline t entry only cut (λ u. stale_holds (run tables printed timeline t) u entry entry.reply.said)
-      (λ o at within. takes-last tables printed timeline t entry only cut o at within entry.reply.who entry.command refl at cut.takes)
-      (λ u checked is_asked is. ap (stale_holds (run tables printed timeline t) u entry) is)
+      by-transaction start tables printed timeline t entry only cut (λ u. stale_holds (run start tables printed timeline t) u entry entry.reply.said)
+      (λ o at within. takes-last start tables printed timeline t entry only cut o at within entry.reply.who entry.command refl at cut.takes)
+      (λ u checked is_asked is. ap (stale_holds (run start tables printed timeline t) u entry) is)
       (open_of entry.reply.who cut.machine) refl cut.change

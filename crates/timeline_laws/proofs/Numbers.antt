@@ -1,5 +1,5 @@
 -- Commit numbers and snapshot numbers of a timeline.
-use Rattle.std.proofs.Common.{◌≡◌, ℕ, ◌+◌, ◌<◌, Bool, true, false, cond, ◌&&◌, ◌||◌, not, eqb, nat_le, nat_lt, List, [], ◌∷◌, ◌++◌, length, Option, None, Some, refl, sym, ap, ◌∙◌, arith, length-append, ◌⊎◌, inl, inr}
+use Rattle.std.proofs.Common.{◌≡◌, ℕ, ◌+◌, ◌<◌, Bool, true, false, cond, ◌&&◌, ◌||◌, not, eqb, nat_le, nat_lt, List, [], ◌∷◌, ◌++◌, length, ◌-◌, Option, None, Some, refl, sym, ap, ◌∙◌, arith, length-append, ◌⊎◌, inl, inr}
 use Rattle.std.specs.Prelude.{is_some, fold}
 use Rattle.std.specs.Option.{option_map_or}
 use Rattle.std.specs.BTreeMap.{insert_entry, is_at}
@@ -16,7 +16,7 @@ use Rattle.std.proofs.lemmas.List.Sums.{sum_by-cons, sum_by-append}
 use Rattle.std.proofs.lemmas.List.Sorted.{sum_by-IsPermutation}
 use Rattle.cell_model.specs.declared.cell.Cell.{Cell}
 use Rattle.cell_model.specs.declared.table.TableDecl.{TableDecl}
-use Rattle.isolation_spec.specs.Contents.{place_cmp, WriteSet}
+use Rattle.isolation_spec.specs.Contents.{place_cmp, History, WriteSet}
 use Rattle.isolation_spec.specs.declared.place.Place.{Place}
 use Rattle.isolation_spec.specs.Machine.{IsolationMachine, transaction_of, Transaction}
 use Rattle.isolation_laws.proofs.Entries.{lookup-insert_entry}
@@ -30,7 +30,7 @@ use Rattle.outcome_spec.specs.Runs.{Span, Run, up_to_end, accepted_write, writes
 use Rattle.outcome_spec.specs.Runs.{transaction_of as belongs_to}
 use Rattle.outcome_spec.specs.Numbers.{has_written, commit_holds, commit_numbers_hold, number_shown, snapshot_holds, snapshot_numbers_hold}
 use Rattle.timeline_laws.proofs.Threads.{same-of}
-use Rattle.timeline_spec.specs.Timeline.{Each, Timeline}
+use Rattle.timeline_spec.specs.Timeline.{Each, TimelineFrom}
 use Rattle.outcome_spec.specs.Entries.{thread}
 use Rattle.timeline_laws.proofs.Tests.{all-three, or-false, at_most}
 use Rattle.timeline_laws.proofs.Ranges.{all-below, all-above}
@@ -113,11 +113,11 @@ count-one p front entry rest h here k =
     sum_by-append (λ other. cond (p other) 1 0) front (entry ∷ rest)
     ∙ (rw (count-none p front h, sum_by-cons (λ other. cond (p other) 1 0) entry rest, here, count-none p rest k) refl)
 
-module _ (tables : List TableDecl) (printed timeline : List Entry) (t : Timeline tables printed timeline) (entry : Entry) (only : Only printed entry)
-    (cut : Cut tables timeline (last tables printed timeline t) entry) where
+module _ (start : History) (tables : List TableDecl) (printed timeline : List Entry) (t : TimelineFrom start tables printed timeline) (entry : Entry) (only : Only printed entry)
+    (cut : Cut start tables timeline (last start tables printed timeline t) entry) where
   -- The run that is read from the printed replies.
   abbrev the_run : Run
-  the_run = run tables printed timeline t
+  the_run = run start tables printed timeline t
 
   -- The session or worker that the reply is to.
   abbrev its : Who
@@ -127,9 +127,9 @@ module _ (tables : List TableDecl) (printed timeline : List Entry) (t : Timeline
   ended-is : (session : ℕ) (o : Transaction) → its ≡ Session session → transaction_of session cut.machine ≡ Some o → is_end entry.reply.said ≡ true
       → (within : Within its (thread its cut.front) o) × (belongs_to the_run entry ≡ Some (span its o.snapshot (within.replies ++ entry ∷ [])))
   ended-is session o is at is_ended =
-      let within = within-own tables printed timeline t its session cut.machine (thread its cut.front) o is at (cut.shown.stands its) in (
+      let within = within-own start tables printed timeline t its session cut.machine (thread its cut.front) o is at (cut.shown.stands its) in (
         within,
-        found-open printed timeline cut.front entry cut.rest (at-cut tables printed timeline t entry only cut) o.snapshot within.replies within.spanned
+        found-open printed timeline cut.front entry cut.rest (at-cut start tables printed timeline t entry only cut) o.snapshot within.replies within.spanned
             ∙ ap (λ (b : Bool). Some (span its o.snapshot (within.replies ++ cond b (entry ∷ []) (entry ∷ up_to_end (thread its cut.rest))))) is_ended,
       )
 
@@ -158,13 +158,13 @@ module _ (tables : List TableDecl) (printed timeline : List Entry) (t : Timeline
       ap (commit_holds the_run entry) is.0 ∙ ap not (written.2 ∙ nothing-any written.0 (none-written (filter_map accepted_write written.0) (written.1 ∙ is.1)))
 
   -- As many commits as are told are behind the whole timeline.
-  many : length the_run.history ≡ length (last tables printed timeline t).history
-  many = ap length (history-shown tables printed timeline t)
+  many : length the_run.history ≡ length (last start tables printed timeline t).history
+  many = ap length (history-shown start tables printed timeline t)
 
   -- Commits before the reply have numbers below each that is above those in front.
   commits-before : (k : ℕ) → length cut.machine.history < k → list_all (λ earlier. nat_lt earlier k) (shown_in commit_in (before printed entry)) ≡ true
   commits-before k low =
-      let here : list_all (λ x. nat_lt x k) (shown_in commit_in cut.front) ≡ true = rw cut.shown.commits_are (all-below k 1 (length cut.machine.history) (omega (arith, low))) in
+      let here : list_all (λ x. nat_lt x k) (shown_in commit_in cut.front) ≡ true = rw cut.shown.commits_are (all-below k (length start + 1) (length cut.machine.history - length start) (omega (arith, low, cut.shown.least))) in
       shown-filter (λ x. nat_lt x k) commit_in (λ other. is_before other entry) printed
       (before-each printed timeline cut.front entry cut.rest t.threads cut.whole t.order (λ other. shows_only (λ x. nat_lt x k) commit_in other ≡ true) (shown-each (λ x. nat_lt x k) commit_in cut.front here))
 
@@ -175,16 +175,16 @@ module _ (tables : List TableDecl) (printed timeline : List Entry) (t : Timeline
       let written = written-is c.session c.t c.who_is c.at (ap is_end c.said_is) (rw c.said_is refl) in
       let wrote : has_written the_run entry ≡ true = written.2 ∙ wrote-by written.0 (list_any (λ other. is_some (accepted_write other)) written.0) refl c.wrote.0 c.wrote.1 (written.1 ∙ c.wrote.2) in
       let longer : length cut.after.history ≡ k = ap (λ (m : IsolationMachine). length m.history) c.is ∙ length_push cut.machine.history c.t.own in
-      let all : length (last tables printed timeline t).history ≡ length cut.after.history + length cut.grows_after.more = ap length cut.grows_after.is ∙ length-append cut.after.history cut.grows_after.more in
+      let all : length (last start tables printed timeline t).history ≡ length cut.after.history + length cut.grows_after.more = ap length cut.grows_after.is ∙ length-append cut.after.history cut.grows_after.more in
       let most : nat_le k (length the_run.history) ≡ true = at_most k (length the_run.history) (omega (arith, many, all, longer)) in
-      let low : list_all (λ x. nat_lt x k) (shown_in commit_in cut.front) ≡ true = rw cut.shown.commits_are (all-below k 1 (length cut.machine.history) (omega arith)) in
+      let low : list_all (λ x. nat_lt x k) (shown_in commit_in cut.front) ≡ true = rw cut.shown.commits_are (all-below k (length start + 1) (length cut.machine.history - length start) (omega (arith, cut.shown.least))) in
       let high : list_all (λ x. nat_lt k x) (shown_in commit_in cut.rest) ≡ true = rw cut.behind (all-above k (length cut.after.history + 1) (length cut.grows_after.more) (omega (arith, longer))) in
       let here : commits_as k entry ≡ true = ap (λ (s : Said). option_map_or (λ shown. eqb shown k) (commit_in s) false) c.said_is ∙ (let e : eqb k k ≡ true = grind (arith, nat_tests) in e) in
       let once : count_by (commits_as k) printed ≡ 1 =
-      sum_by-IsPermutation (λ other. cond (commits_as k other) 1 0) timeline printed (same-of tables printed timeline t)
+      sum_by-IsPermutation (λ other. cond (commits_as k other) 1 0) timeline printed (same-of start tables printed timeline t)
       ∙ ap (count_by (commits_as k)) cut.whole
       ∙ count-one (commits_as k) cut.front entry cut.rest (below-other k cut.front low) here (above-other k cut.rest high) in
-      let least : nat_le 1 k ≡ true = at_most 1 k (omega arith) in
+      let least : nat_lt (length start) k ≡ true = let above : length start < k = omega (arith, cut.shown.least) in grind (arith, nat_tests, above) in
       ap (commit_holds the_run entry) c.said_is
       ∙ (rw (wrote, least, most, once) (commits-before k (omega arith)))
 
@@ -204,14 +204,14 @@ module _ (tables : List TableDecl) (printed timeline : List Entry) (t : Timeline
   -- A snapshot of as many commits as there are keeps the rule of snapshot numbers.
   opening-holds : (number : ℕ) → number ≡ length cut.machine.history → cut.after.history ≡ cut.machine.history → snapshot_holds the_run entry (said.At number) ≡ true
   opening-holds number is same =
-      let all : length (last tables printed timeline t).history ≡ length cut.machine.history + length cut.grows.more = ap length cut.grows.is ∙ length-append cut.machine.history cut.grows.more in
+      let all : length (last start tables printed timeline t).history ≡ length cut.machine.history + length cut.grows.more = ap length cut.grows.is ∙ length-append cut.machine.history cut.grows.more in
       let most : nat_le number (length the_run.history) ≡ true = at_most number (length the_run.history) (omega (arith, many, all, is)) in
-      let least : nat_le 0 number ≡ true = at_most 0 number (omega arith) in
+      let least : nat_le (length start) number ≡ true = at_most (length start) number (omega (arith, is, cut.shown.least)) in
       let in_front : list_all (λ x. nat_le x number) (shown_in number_shown cut.front) ≡ true = rw is cut.shown.numbers in
       let high : list_all (λ x. nat_lt number x) (shown_in commit_in cut.rest) ≡ true = rw cut.behind (all-above number (length cut.after.history + 1) (length cut.grows_after.more) (omega (arith, is, ap length same))) in
-      all-three (nat_le number (length the_run.history) && nat_le 0 number) (list_all (λ earlier. nat_le earlier number) (shown_in number_shown (before printed entry)))
+      all-three (nat_le number (length the_run.history) && nat_le (length start) number) (list_all (λ earlier. nat_le earlier number) (shown_in number_shown (before printed entry)))
       (list_all (λ later. nat_lt number later) (shown_in commit_in (after printed entry)))
-      (and_from (nat_le number (length the_run.history)) (nat_le 0 number) most least)
+      (and_from (nat_le number (length the_run.history)) (nat_le (length start) number) most least)
       (shown-filter (λ x. nat_le x number) number_shown (λ other. is_before other entry) printed
       (before-each printed timeline cut.front entry cut.rest t.threads cut.whole t.order (λ other. shows_only (λ x. nat_le x number) number_shown other ≡ true) (shown-each (λ x. nat_le x number) number_shown cut.front in_front)))
       (shown-filter (λ x. nat_lt number x) commit_in (λ other. is_before entry other) printed

@@ -1,6 +1,6 @@
 -- Rows of a state stand at their own places, in order, and fit their tables.
 use Rattle.std.proofs.Common.{◌≡◌, ℕ, zero, suc, Bool, true, false, cond, List, [], ◌∷◌, ◌++◌, Option, None, Some, ℤ, refl, sym, ap, ◌∙◌, subst}
-use Rattle.std.specs.Prelude.{◌==◌, fold, int_lt, take}
+use Rattle.std.specs.Prelude.{◌==◌, All, IfSome, IsSomeAnd, fold, int_lt, is_none, slice_get, take}
 use Rattle.std.specs.BTreeMap.{insert_entry}
 use Rattle.std.specs.Cmp.{nat_cmp_total, tied_itself}
 use Rattle.std.specs.FinMap.{nat_cmp-IsAntisymmetric, int_cmp-IsAntisymmetric}
@@ -11,9 +11,11 @@ use Rattle.std.specs.Ordering.{int_cmp, nat_cmp, match_ordering, ordering_then, 
 use Rattle.std.specs.declared.cmp.Ordering.{Ordering}
 use Rattle.std.specs.declared.cmp.Ordering.TheVariants.{Less, Equal, Greater}
 use Rattle.std.proofs.lemmas.Bool.{eqb-true, and_parts}
+use Rattle.std.proofs.lemmas.List.Elements.{All-head, All-tail}
 use Rattle.cell_model.specs.declared.cell.Cell.{Cell}
 use Rattle.cell_model.specs.declared.table.TableDecl.{TableDecl}
 use Rattle.cell_model.specs.Rows.{fits}
+use Rattle.isolation_spec.specs.Commits.{AreCommitsOf, FitsPlace, IsCommitOf, IsWriteOf}
 use Rattle.isolation_spec.specs.Contents.{place_cmp, is_place, at_place, State, WriteSet, History, with_write, laid_over, state_at, contents_of, contents_between, is_in_range, key_of}
 use Rattle.isolation_spec.specs.declared.place.Place.{Place}
 use Rattle.cell_model.specs.Values.{is_between}
@@ -161,6 +163,37 @@ module _ (tables : List TableDecl) where
   -- The rows after some commits are placed.
   pub state-placed : (history : History) (n : ℕ) → AllWritten history → Placed (state_at history n)
   state-placed history n h = laid-all [] (take n history) tt (all-first n history h)
+
+  -- ---- commits of the tables
+
+  -- What a write of the tables writes may stand at its place.
+  write-may : (write : Place × Option (List Cell)) → IsWriteOf tables write → MayBeWritten write.0 write.1
+  write-may write h = by write.1 (slice_get tables write.0.table) refl h.row
+    where
+      by : (change : Option (List Cell)) (found : Option TableDecl) → slice_get tables write.0.table ≡ found
+          → IsSomeAnd found (λ table. IfSome change (FitsPlace table.schema write.0)) → MayBeWritten write.0 change
+      by None found is fit = tt
+      by (Some row) None is fit = absurd fit
+      by (Some row) (Some decl) is fit = record {
+        fit = ap (λ (o : Option TableDecl). fits (option_map_or (λ (table : TableDecl). table.schema) o []) row) is ∙ ap is_none fit.cells;
+        key = fit.key;
+      }
+
+  -- So may what all writes of a commit of the tables write.
+  writes-may : (writes : WriteSet) → All (IsWriteOf tables) writes → Written writes
+  writes-may [] h = tt
+  writes-may (write ∷ writes) h = (
+    write-may write (All-head (IsWriteOf tables) write writes h),
+    writes-may writes (All-tail (IsWriteOf tables) write writes h),
+  )
+
+  -- What commits of the tables write may stand at its places.
+  pub commits-written : (commits : History) → AreCommitsOf tables commits → AllWritten commits
+  commits-written [] h = tt
+  commits-written (writes ∷ commits) h = (
+    writes-may writes (All-head (IsCommitOf tables) writes commits h).each,
+    commits-written commits (All-tail (IsCommitOf tables) writes commits h),
+  )
 
   -- one more write
   pub insert-written : (place : Place) (change : Option (List Cell)) (own : WriteSet) → MayBeWritten place change → Written own → Written (insert_entry place_cmp own place change)

@@ -25,7 +25,7 @@ use Rattle.outcome_spec.specs.Entries.{Entry, is_same, is_before, is_not_after, 
 use Rattle.outcome_spec.specs.Runs.{Span, Run, up_to_end, ending_of, write_of, commit_line, commits_as}
 use Rattle.outcome_spec.specs.Answers.{is_acceptable}
 use Rattle.outcome_spec.specs.Conflicts.{is_committed_before, is_committed_not_after, has_write, names_commit, names_session, passes_no_commit, passes_no_session, is_clear, is_first_updater, conflict_holds, conflicts_hold}
-use Rattle.timeline_spec.specs.Timeline.{open_of, Each, Follows, Timeline, Runs, request_of, TakesAs}
+use Rattle.timeline_spec.specs.Timeline.{open_of, Each, Follows, TimelineFrom, RunsFrom, request_of, TakesAs}
 use Rattle.outcome_spec.specs.Entries.{thread}
 use Rattle.timeline_laws.proofs.Tests.{all-three, all-four}
 use Rattle.timeline_laws.proofs.Ranges.{all-below, all-above}
@@ -52,11 +52,11 @@ grown (writes w) = omega (arith, ap (λ (m : IsolationMachine). length m.history
 grown (ends e) = omega (arith, ap (λ (m : IsolationMachine). length m.history) e.is)
 grown {machine = machine} (commits c) = omega (arith, ap (λ (m : IsolationMachine). length m.history) c.is, length_push machine.history c.t.own)
 
-module _ (tables : List TableDecl) (printed timeline : List Entry) (t : Timeline tables printed timeline) (entry : Entry) (only : Only printed entry)
-    (cut : Cut tables timeline (last tables printed timeline t) entry) where
+module _ (start : History) (tables : List TableDecl) (printed timeline : List Entry) (t : TimelineFrom start tables printed timeline) (entry : Entry) (only : Only printed entry)
+    (cut : Cut start tables timeline (last start tables printed timeline t) entry) where
   -- The run that is read from the printed replies.
   abbrev the_run : Run
-  the_run = run tables printed timeline t
+  the_run = run start tables printed timeline t
 
   -- The history that the machine has in front of the reply.
   abbrev so_far : History
@@ -66,7 +66,7 @@ module _ (tables : List TableDecl) (printed timeline : List Entry) (t : Timeline
   line-by : (k : ℕ) → length so_far < k → (line : Entry) → commit_line printed k ≡ Some line → (b : Bool) → is_before line entry ≡ b → is_before line entry ≡ false
   line-by k high line is false at = at
   line-by k high line is true at =
-      let low : list_all (λ x. nat_lt x k) (shown_in commit_in cut.front) ≡ true = rw cut.shown.commits_are (all-below k 1 (length so_far) (omega (arith, high))) in
+      let low : list_all (λ x. nat_lt x k) (shown_in commit_in cut.front) ≡ true = rw cut.shown.commits_are (all-below k (length start + 1) (length so_far - length start) (omega (arith, high, cut.shown.least))) in
       let each = before-each printed timeline cut.front entry cut.rest t.threads cut.whole t.order (λ other. commits_as k other ≡ false) (below-other k cut.front low) in
       let other : commits_as k line ≡ false = find-each (λ o. is_before o entry ≡ true → commits_as k o ≡ false) (commits_as k) printed line each is at in
       let never : true ≡ false = sym (find-passes (commits_as k) printed line is) ∙ other in
@@ -94,24 +94,25 @@ module _ (tables : List TableDecl) (printed timeline : List Entry) (t : Timeline
       absurd (let impossible : ⊥ = cc in impossible)
 
   -- The line of a commit in front is found, and is not after the reply.
-  not-after-found : (k : ℕ) → 1 ≤ k → k ≤ length so_far → (found : Option Entry) → commit_line printed k ≡ found → option_map_or (λ line. is_not_after line entry) found false ≡ true
+  not-after-found : (k : ℕ) → length start < k → k ≤ length so_far → (found : Option Entry) → commit_line printed k ≡ found → option_map_or (λ line. is_not_after line entry) found false ≡ true
   not-after-found k least low None is =
       let none = Each-timeline (λ other. commits_as k other ≡ false) printed timeline t.threads (find-fails (commits_as k) printed is) in
       let in_front = Each-first (λ other. commits_as k other ≡ false) cut.front (entry ∷ cut.rest) (subst (Each (λ other. commits_as k other ≡ false)) cut.whole none) in
       let absent : list_any (λ x. eqb x k) (shown_in commit_in cut.front) ≡ false = unshown k cut.front in_front in
-      let there : list_any (λ x. eqb x k) (range_with_len 1 (length so_far)) ≡ true = range-has k 1 (length so_far) least (omega (arith, low)) in
+      let there : list_any (λ x. eqb x k) (range_with_len (length start + 1) (length so_far - length start)) ≡ true =
+      range-has k (length start + 1) (length so_far - length start) (omega (arith, least)) (omega (arith, low, cut.shown.least)) in
       let never : true ≡ false = sym there ∙ sym (ap (list_any (λ x. eqb x k)) cut.shown.commits_are) ∙ absent in
       absurd (let impossible : ⊥ = cc in impossible)
   not-after-found k least low (Some line) is = ap not (after-by k low line is (is_before entry line) refl)
 
   -- a commit of those so far has its line, which is not after the reply
-  pub not-after-line : (k : ℕ) → 1 ≤ k → k ≤ length so_far → is_committed_not_after the_run entry k ≡ true
+  pub not-after-line : (k : ℕ) → length start < k → k ≤ length so_far → is_committed_not_after the_run entry k ≡ true
   not-after-line k least low = not-after-found k least low (commit_line printed k) refl
 
   -- the write set of a number in front is the machine's
   pub set-is : (k : ℕ) → 1 ≤ k → k ≤ length so_far → write_set_at (the_run).history k ≡ get_or so_far (k - 1) []
   set-is k least low =
-      ap (λ (h : History). get_or h (k - 1) []) (history-shown tables printed timeline t ∙ cut.grows.is)
+      ap (λ (h : History). get_or h (k - 1) []) (history-shown start tables printed timeline t ∙ cut.grows.is)
       ∙ get_or_append_left so_far cut.grows.more [] (k - 1) (omega (arith, least, low))
 
   -- ---- the commits that pass a test
@@ -177,8 +178,8 @@ module _ (tables : List TableDecl) (printed timeline : List Entry) (t : Timeline
       && list_all (λ later. nat_le later number || not (is_committed_before the_run entry later)) (later_commits (the_run).history u.snapshot test)
 
   -- the last commit behind the snapshot that passes may be named
-  pub last-named : (u : Span) (test : WriteSet → Bool) (empty : test [] ≡ false) (number : ℕ) → u.snapshot ≤ length so_far → last_passing test (u.snapshot + 1) (drop u.snapshot so_far) ≡ Some number → may_name u test number ≡ true
-  last-named u test empty number bound is =
+  pub last-named : (u : Span) (test : WriteSet → Bool) (empty : test [] ≡ false) (number : ℕ) → length start ≤ u.snapshot → u.snapshot ≤ length so_far → last_passing test (u.snapshot + 1) (drop u.snapshot so_far) ≡ Some number → may_name u test number ≡ true
+  last-named u test empty number began bound is =
       let n = u.snapshot in
       let at = last-some test empty (n + 1) (drop n so_far) number is in
       let inside : at.index < length (drop n so_far) = at.inside in
@@ -189,17 +190,17 @@ module _ (tables : List TableDecl) (printed timeline : List Entry) (t : Timeline
       let has : test (write_set_at (the_run).history number) ≡ true =
       ap test (set-is number (omega (arith, low)) high ∙ ap (λ (i : ℕ). get_or so_far i []) (sym index_is) ∙ sym (get_or-drop n so_far at.index [])) ∙ at.passes in
       let above : nat_lt n number ≡ true = grind (arith, nat_tests, low) in
-      let long : length (the_run).history ≡ length so_far + length cut.grows.more = ap length (history-shown tables printed timeline t ∙ cut.grows.is) ∙ length-append so_far cut.grows.more in
+      let long : length (the_run).history ≡ length so_far + length cut.grows.more = ap length (history-shown start tables printed timeline t ∙ cut.grows.is) ∙ length-append so_far cut.grows.more in
       all-three (list_any (λ later. eqb later number) (later_commits (the_run).history u.snapshot test)) (is_committed_not_after the_run entry number)
       (list_all (λ later. nat_le later number || not (is_committed_before the_run entry later)) (later_commits (the_run).history u.snapshot test))
       (range-any (is_later n test) number 1 (length (the_run).history) (omega (arith, low)) (omega (arith, high, long)) (and_from (nat_lt n number) (test (write_set_at (the_run).history number)) above has))
-      (not-after-line number (omega (arith, low)) high)
+      (not-after-line number (omega (arith, low, began)) high)
       (filter-all (λ k. nat_le k number || not (is_committed_before the_run entry k)) (is_later n test)
       (λ k h. last-by n test number k bound at h (nat_le k number) (nat_le k (length so_far)) refl refl) (range_with_len 1 (length (the_run).history)))
 
   -- the last commit behind the snapshot that has the place may be named
-  commit-named : (u : Span) (place : Place) (number : ℕ) → u.snapshot ≤ length so_far → last_writer place (u.snapshot + 1) (drop u.snapshot so_far) ≡ Some number → names_commit the_run u place entry number ≡ true
-  commit-named u place number bound is = last-named u (writes_place place) refl number bound is
+  commit-named : (u : Span) (place : Place) (number : ℕ) → length start ≤ u.snapshot → u.snapshot ≤ length so_far → last_writer place (u.snapshot + 1) (drop u.snapshot so_far) ≡ Some number → names_commit the_run u place entry number ≡ true
+  commit-named u place number began bound is = last-named u (writes_place place) refl number began bound is
 
   -- ---- the open transactions of a place
 
@@ -211,16 +212,16 @@ module _ (tables : List TableDecl) (printed timeline : List Entry) (t : Timeline
   spans-of : (who : Who) → filter (λ u. is_same u.who who) (the_run).transactions ≡ spans who (thread who cut.front ++ rest_of who)
   spans-of who =
       spans-is who printed
-      ∙ ap (spans who) (its-thread printed timeline cut.front entry cut.rest (at-cut tables printed timeline t entry only cut) who)
+      ∙ ap (spans who) (its-thread printed timeline cut.front entry cut.rest (at-cut start tables printed timeline t entry only cut) who)
 
   -- those in front are not after the reply, and those behind not before it
   front-not-after : Each (λ other. is_before entry other ≡ false) cut.front
-  front-not-after = Each-weaker (λ earlier. Follows earlier entry) (λ other. is_before entry other ≡ false) (λ other follows. follows.not_before) cut.front (front-follows tables printed timeline t entry only cut)
+  front-not-after = Each-weaker (λ earlier. Follows earlier entry) (λ other. is_before entry other ≡ false) (λ other follows. follows.not_before) cut.front (front-follows start tables printed timeline t entry only cut)
 
   -- The reply and those behind it are not before it.
   rest-not-before : Each (λ other. is_before other entry ≡ false) (entry ∷ cut.rest)
   rest-not-before =
-      (before-itself entry, Each-weaker (Follows entry) (λ other. is_before other entry ≡ false) (λ other follows. follows.not_before) cut.rest (rest-follows tables printed timeline t entry only cut))
+      (before-itself entry, Each-weaker (Follows entry) (λ other. is_before other entry ≡ false) (λ other follows. follows.not_before) cut.rest (rest-follows start tables printed timeline t entry only cut))
 
   -- whether another session's transaction has a write of the place before the reply and its end
   -- after it
@@ -387,9 +388,9 @@ has-still true c h = refl
 has-still false c h = h
 
 -- The history behind some replies goes on from the one before them.
-grows-of : (tables : List TableDecl) (front : List Entry) (machine : IsolationMachine) (rest : List Entry) {end : IsolationMachine} → Shown front machine → (runs : Runs tables front machine rest)
-    → last_of tables front machine rest runs ≡ end → Grows machine.history end.history
-grows-of tables front machine rest shown runs is = subst (λ (m : IsolationMachine). Grows machine.history m.history) is (all-grow tables front machine rest shown runs)
+grows-of : (start : History) (tables : List TableDecl) (front : List Entry) (machine : IsolationMachine) (rest : List Entry) {end : IsolationMachine} → Shown start front machine → (runs : RunsFrom start tables front machine rest)
+    → last_of start tables front machine rest runs ≡ end → Grows machine.history end.history
+grows-of start tables front machine rest shown runs is = subst (λ (m : IsolationMachine). Grows machine.history m.history) is (all-grow start tables front machine rest shown runs)
 
 -- Where no commit behind a snapshot passes, none of those there does.
 lacks-in : (history : History) (n : ℕ) (test : WriteSet → Bool) (empty : test [] ≡ false) (k : ℕ) → last_passing test (n + 1) (drop n history) ≡ None → n < k → test (get_or history (k - 1) []) ≡ false
@@ -399,10 +400,10 @@ lacks-in history n test empty k none low =
     ∙ ap test (sym (get_or-drop n history (k - 1 - n) []))
     ∙ last-none test empty (n + 1) (drop n history) none (k - 1 - n)
 
-module _ (tables : List TableDecl) (printed timeline : List Entry) (t : Timeline tables printed timeline) (u : Span) where
+module _ (start : History) (tables : List TableDecl) (printed timeline : List Entry) (t : TimelineFrom start tables printed timeline) (u : Span) where
   -- The run that is read from all printed replies.
   abbrev run_of_all : Run
-  run_of_all = run tables printed timeline t
+  run_of_all = run start tables printed timeline t
 
   module _ (test : WriteSet → Bool) (empty : test [] ≡ false) where
     -- Whether a commit is behind the snapshot and passes.
@@ -410,7 +411,7 @@ module _ (tables : List TableDecl) (printed timeline : List Entry) (t : Timeline
     behind_snapshot k = nat_lt u.snapshot k && test (write_set_at (run_of_all).history k)
 
     -- A commit behind the snapshot that passes is above those of this history.
-    above-all : (history : History) → Grows history (last tables printed timeline t).history → last_passing test (u.snapshot + 1) (drop u.snapshot history) ≡ None
+    above-all : (history : History) → Grows history (last start tables printed timeline t).history → last_passing test (u.snapshot + 1) (drop u.snapshot history) ≡ None
         → (k : ℕ) → behind_snapshot k ≡ true → (b : Bool) → nat_le (length history + 1) k ≡ b → nat_le (length history + 1) k ≡ true
     above-all history grows none k h true is = is
     above-all history grows none k h false is =
@@ -418,20 +419,20 @@ module _ (tables : List TableDecl) (printed timeline : List Entry) (t : Timeline
         let low : u.snapshot < k = grind (arith, nat_tests, parts.0) in
         let high : k ≤ length history = grind (arith, nat_tests, is) in
         let same : write_set_at (run_of_all).history k ≡ get_or history (k - 1) [] =
-        ap (λ (xs : History). get_or xs (k - 1) []) (history-shown tables printed timeline t ∙ grows.is) ∙ get_or_append_left history grows.more [] (k - 1) (omega (arith, low, high)) in
+        ap (λ (xs : History). get_or xs (k - 1) []) (history-shown start tables printed timeline t ∙ grows.is) ∙ get_or_append_left history grows.more [] (k - 1) (omega (arith, low, high)) in
         let never : true ≡ false = sym parts.1 ∙ ap test same ∙ lacks-in history u.snapshot test empty k none low in
         absurd (let impossible : ⊥ = cc in impossible)
 
     -- The number behind this history is at most that of each later commit that passes.
-    pub first-number : (history : History) → Grows history (last tables printed timeline t).history → last_passing test (u.snapshot + 1) (drop u.snapshot history) ≡ None
+    pub first-number : (history : History) → Grows history (last start tables printed timeline t).history → last_passing test (u.snapshot + 1) (drop u.snapshot history) ≡ None
         → list_all (nat_le (length history + 1)) (later_commits (run_of_all).history u.snapshot test) ≡ true
     first-number history grows none =
         filter-all (nat_le (length history + 1)) behind_snapshot (λ k h. above-all history grows none k h (nat_le (length history + 1) k) refl) (range_with_len 1 (length (run_of_all).history))
 
-module _ (tables : List TableDecl) (printed timeline : List Entry) (t : Timeline tables printed timeline) (u : Span) (place : Place) where
+module _ (start : History) (tables : List TableDecl) (printed timeline : List Entry) (t : TimelineFrom start tables printed timeline) (u : Span) (place : Place) where
   -- The run that is read from all printed replies.
   abbrev the_whole : Run
-  the_whole = run tables printed timeline t
+  the_whole = run start tables printed timeline t
 
   -- the first end among replies commits below no other commit of the place
   abbrev commits_first : Option Entry → Type 0
@@ -477,8 +478,8 @@ module _ (tables : List TableDecl) (printed timeline : List Entry) (t : Timeline
       writes-more (h.0).own at change place ∙ has-still (is_place place at) (writes_place place (h.0).own) h.3,
     )
 
-    end-own : (front : List Entry) (machine after : IsolationMachine) (e : Entry) (rest : List Entry) → Shown front machine
-        → Grows machine.history (last tables printed timeline t).history → StillHas machine
+    end-own : (front : List Entry) (machine after : IsolationMachine) (e : Entry) (rest : List Entry) → Shown start front machine
+        → Grows machine.history (last start tables printed timeline t).history → StillHas machine
         → (StillHas after → commits_first (find (λ x. is_end x.reply.said) (thread who_s rest))) → is_same e.reply.who who_s ≡ true
         → Change e.reply.who e.command e.reply.said machine after
         → commits_first (find (λ x. is_end x.reply.said) (thread who_s (e ∷ rest)))
@@ -493,10 +494,10 @@ module _ (tables : List TableDecl) (printed timeline : List Entry) (t : Timeline
     end-own front machine after e rest shown grows h more same (commits c) =
         let none = ap (λ (n : ℕ). last_writer place (n + 1) (drop n machine.history)) (sym h.2) ∙ shown.sane.first s h.0 place h.1 h.3 in
         ends-by e rest same (ap is_end c.said_is)
-        (ap (λ (told : Said). option_map_or (λ number. list_all (nat_le number) (later_writers (the_whole).history u.snapshot place)) (commit_in told) true) c.said_is ∙ first-number tables printed timeline t u (writes_place place) refl machine.history grows none)
+        (ap (λ (told : Said). option_map_or (λ number. list_all (nat_le number) (later_writers (the_whole).history u.snapshot place)) (commit_in told) true) c.said_is ∙ first-number start tables printed timeline t u (writes_place place) refl machine.history grows none)
 
-    end-step : (front : List Entry) (machine after : IsolationMachine) (e : Entry) (rest : List Entry) → Shown front machine → Change e.reply.who e.command e.reply.said machine after
-        → Grows machine.history (last tables printed timeline t).history → StillHas machine
+    end-step : (front : List Entry) (machine after : IsolationMachine) (e : Entry) (rest : List Entry) → Shown start front machine → Change e.reply.who e.command e.reply.said machine after
+        → Grows machine.history (last start tables printed timeline t).history → StillHas machine
         → (StillHas after → commits_first (find (λ x. is_end x.reply.said) (thread who_s rest))) → (b : Bool) → is_same e.reply.who who_s ≡ b
         → commits_first (find (λ x. is_end x.reply.said) (thread who_s (e ∷ rest)))
     end-step front machine after e rest shown change grows h more true same = end-own front machine after e rest shown grows h more same change
@@ -504,13 +505,13 @@ module _ (tables : List TableDecl) (printed timeline : List Entry) (t : Timeline
         let still : transaction_of s after ≡ transaction_of s machine = others-open e.reply.who who_s e.command e.reply.said machine after same change in
         subst commits_first (sym (ap (find (λ x. is_end x.reply.said)) (thread-first e rest false same))) (more (h.0, still ∙ h.1, h.2, h.3))
 
-    end-first : (front : List Entry) (machine : IsolationMachine) (rest : List Entry) → Shown front machine → (runs : Runs tables front machine rest)
-        → last_of tables front machine rest runs ≡ last tables printed timeline t → StillHas machine → commits_first (find (λ x. is_end x.reply.said) (thread who_s rest))
+    end-first : (front : List Entry) (machine : IsolationMachine) (rest : List Entry) → Shown start front machine → (runs : RunsFrom start tables front machine rest)
+        → last_of start tables front machine rest runs ≡ last start tables printed timeline t → StillHas machine → commits_first (find (λ x. is_end x.reply.said) (thread who_s rest))
     end-first front machine [] shown runs is h = refl
     end-first front machine (e ∷ rest) shown runs is h =
         let change = change-of tables front machine runs.0 e shown.sane runs.1 in
-        let next = shown-step front machine runs.0 e shown change in
-        end-step front machine runs.0 e rest shown change (grows-of tables front machine (e ∷ rest) shown runs is) h (end-first (front ++ e ∷ []) runs.0 rest next runs.3 is) (is_same e.reply.who who_s) refl
+        let next = shown-step start front machine runs.0 e shown change in
+        end-step front machine runs.0 e rest shown change (grows-of start tables front machine (e ∷ rest) shown runs is) h (end-first (front ++ e ∷ []) runs.0 rest next runs.3 is) (is_same e.reply.who who_s) refl
 
 -- ---- the rules of a conflict
 
@@ -538,16 +539,16 @@ ended-not told own is (inr h) = let e : said.Accepted ≡ said.Committed None = 
 itself-place : (place : Place) → is_place place place ≡ true
 itself-place place = (eq_by_cmp_equiv place_cmp-total).refl place
 
-module _ (tables : List TableDecl) (printed timeline : List Entry) (t : Timeline tables printed timeline) (entry : Entry) (only : Only printed entry)
-    (cut : Cut tables timeline (last tables printed timeline t) entry) (s : ℕ) (o : Transaction) (who_is : entry.reply.who ≡ Session s) (at : transaction_of s cut.machine ≡ Some o)
+module _ (start : History) (tables : List TableDecl) (printed timeline : List Entry) (t : TimelineFrom start tables printed timeline) (entry : Entry) (only : Only printed entry)
+    (cut : Cut start tables timeline (last start tables printed timeline t) entry) (s : ℕ) (o : Transaction) (who_is : entry.reply.who ≡ Session s) (at : transaction_of s cut.machine ≡ Some o)
     (within : Within entry.reply.who (thread entry.reply.who cut.front) o) (place : Place) (change : Option (List Cell)) (wrote : write_of entry.command ≡ Some (place, change)) where
   -- The run of all printed replies, in which the write is answered.
   abbrev all_run : Run
-  all_run = run tables printed timeline t
+  all_run = run start tables printed timeline t
 
   -- The transaction that the reply belongs to.
   abbrev its_own : Span
-  its_own = belongs tables printed timeline t entry only cut o within
+  its_own = belongs start tables printed timeline t entry only cut o within
 
   -- The open transaction is that of the session.
   session_is : o.session ≡ s
@@ -557,12 +558,16 @@ module _ (tables : List TableDecl) (printed timeline : List Entry) (t : Timeline
   low : o.snapshot ≤ length (cut.machine).history
   low = cut.shown.sane.bound s o at
 
+  -- Nor is it below those that the store began with.
+  began : length start ≤ o.snapshot
+  began = cut.shown.started s o at
+
   -- A place that is clear is free of other sessions' open transactions.
   free : Clear cut.machine o place → Free s place (cut.machine).open_transactions
   free clear = subst (λ (x : ℕ). Free x place (cut.machine).open_transactions) session_is (free-none o.session place (cut.machine).open_transactions clear.rival)
 
   -- behind an accepted write the transaction has the place
-  still-has : entry.reply.said ≡ said.Accepted → Change entry.reply.who entry.command entry.reply.said cut.machine cut.after → StillHas tables printed timeline t its_own place s cut.after
+  still-has : entry.reply.said ≡ said.Accepted → Change entry.reply.who entry.command entry.reply.said cut.machine cut.after → StillHas start tables printed timeline t its_own place s cut.after
   still-has is (quiet q) =
       absurd (nothing-written (place, change) (sym wrote ∙ sym (ap (λ (told : Said). cond {A = Option (Place × Option (List Cell))} (is_accepted told) (write_of entry.command) None) is) ∙ q.writes))
   still-has is (opens x) = absurd (let e : said.Accepted ≡ said.At (length (cut.machine).history) = sym is ∙ x.said_is in let never : ⊥ = cc in never)
@@ -588,14 +593,14 @@ module _ (tables : List TableDecl) (printed timeline : List Entry) (t : Timeline
       ∙ ap (λ (b : Bool). find (λ e. is_end e.reply.said) (cond b (entry ∷ []) (entry ∷ up_to_end behind))) (ap is_end is)
       ∙ ap (λ (b : Bool). cond b (Some entry) (find (λ e. is_end e.reply.said) (up_to_end behind))) (ap is_end is)
       ∙ find-cut behind in
-      subst (commits_first tables printed timeline t its_own place) (sym (ending ∙ ap (λ (w : Who). find (λ e. is_end e.reply.said) (thread w cut.rest)) who_is))
-      (end-first tables printed timeline t its_own place s (cut.front ++ entry ∷ []) cut.after cut.rest cut.shown_after cut.runs_after cut.last_is (still-has is cut.change))
+      subst (commits_first start tables printed timeline t its_own place) (sym (ending ∙ ap (λ (w : Who). find (λ e. is_end e.reply.said) (thread w cut.rest)) who_is))
+      (end-first start tables printed timeline t its_own place s (cut.front ++ entry ∷ []) cut.after cut.rest cut.shown_after cut.runs_after cut.last_is (still-has is cut.change))
 
   -- nobody is passed over where the place is clear
   clear-holds : Clear cut.machine o place → is_clear all_run its_own place entry ≡ true
   clear-holds clear =
       and_from (passes_no_commit all_run its_own place entry) (passes_no_session all_run its_own place entry)
-      (no-commit tables printed timeline t entry only cut its_own place low clear.last) (no-session tables printed timeline t entry only cut its_own s place who_is (free clear))
+      (no-commit start tables printed timeline t entry only cut its_own place low clear.last) (no-session start tables printed timeline t entry only cut its_own s place who_is (free clear))
 
   -- By each verdict on a write, what its reply tells of conflicts holds.
   pub conflict-by : (acceptable : Bool) → Verdict cut.machine o place acceptable entry.reply.said → conflict_holds all_run its_own place entry entry.reply.said ≡ true
@@ -603,11 +608,11 @@ module _ (tables : List TableDecl) (printed timeline : List Entry) (t : Timeline
       ap (conflict_holds all_run its_own place entry) is ∙ and_from (is_clear all_run its_own place entry) (is_first_updater all_run its_own place) (clear-holds clear) (first-updater is)
   conflict-by acceptable (rival r found is) =
       let rivals = subst (λ (x : ℕ). Rival x place (cut.machine).open_transactions r) session_is (rival-some o.session place (cut.machine).open_transactions r cut.shown.sane.apart found) in
-      ap (conflict_holds all_run its_own place entry) is ∙ session-named tables printed timeline t entry only cut its_own s place r who_is rivals
+      ap (conflict_holds all_run its_own place entry) is ∙ session-named start tables printed timeline t entry only cut its_own s place r who_is rivals
   conflict-by acceptable (later k none found is) =
       ap (conflict_holds all_run its_own place entry) is
-      ∙ and_from (names_commit all_run its_own place entry k) (passes_no_session all_run its_own place entry) (commit-named tables printed timeline t entry only cut its_own place k low found)
-      (no-session tables printed timeline t entry only cut its_own s place who_is (subst (λ (x : ℕ). Free x place (cut.machine).open_transactions) session_is (free-none o.session place (cut.machine).open_transactions none)))
+      ∙ and_from (names_commit all_run its_own place entry k) (passes_no_session all_run its_own place entry) (commit-named start tables printed timeline t entry only cut its_own place k began low found)
+      (no-session start tables printed timeline t entry only cut its_own s place who_is (subst (λ (x : ℕ). Free x place (cut.machine).open_transactions) session_is (free-none o.session place (cut.machine).open_transactions none)))
   conflict-by acceptable (refused clear can (inl is)) = ap (conflict_holds all_run its_own place entry) is ∙ clear-holds clear
   conflict-by acceptable (refused clear can (inr is)) = ap (conflict_holds all_run its_own place entry) is ∙ clear-holds clear
   conflict-by acceptable (limited clear can (inl is)) = ap (conflict_holds all_run its_own place entry) is ∙ clear-holds clear
@@ -618,23 +623,23 @@ module _ (tables : List TableDecl) (printed timeline : List Entry) (t : Timeline
 abbrev conflict_test : Run → Entry → Span → Bool
 conflict_test all entry u = option_map_or (λ write. conflict_holds all u write.0 entry entry.reply.said) (write_of entry.command) true
 
-module _ (tables : List TableDecl) (printed timeline : List Entry) (t : Timeline tables printed timeline) (entry : Entry) (only : Only printed entry)
-    (cut : Cut tables timeline (last tables printed timeline t) entry) where
+module _ (start : History) (tables : List TableDecl) (printed timeline : List Entry) (t : TimelineFrom start tables printed timeline) (entry : Entry) (only : Only printed entry)
+    (cut : Cut start tables timeline (last start tables printed timeline t) entry) where
   -- a write in a transaction
   conflict-inside : (who : Who) → entry.reply.who ≡ who → (o : Transaction) → open_of who cut.machine ≡ Some o → (within : Within entry.reply.who (thread entry.reply.who cut.front) o)
       → (write : Option (Place × Option (List Cell))) → write_of entry.command ≡ write
-      → option_map_or (λ w. conflict_holds (run tables printed timeline t) (belongs tables printed timeline t entry only cut o within) w.0 entry entry.reply.said) write true ≡ true
+      → option_map_or (λ w. conflict_holds (run start tables printed timeline t) (belongs start tables printed timeline t entry only cut o within) w.0 entry entry.reply.said) write true ≡ true
   conflict-inside (Worker worker) is o at within write wrote = absurd (let never : ⊥ = cc in never)
   conflict-inside (Session s) is o at within None wrote = refl
   conflict-inside (Session s) is o at within (Some write) wrote =
-      conflict-by tables printed timeline t entry only cut s o is at within write.0 write.1 wrote (is_acceptable (seen_rows cut.machine o) entry.command)
+      conflict-by start tables printed timeline t entry only cut s o is at within write.0 write.1 wrote (is_acceptable (seen_rows cut.machine o) entry.command)
       (takes-verdict tables cut.front cut.machine s o entry.command entry.reply.said cut.after entry write.0 write.1 refl refl at wrote
       (subst (λ (w : Who). TakesAs tables cut.front cut.machine entry cut.after (request_of w entry.command)) is cut.takes))
 
   -- Conflicts.
-  pub conflicts-hold-here : conflicts_hold (run tables printed timeline t) entry ≡ true
+  pub conflicts-hold-here : conflicts_hold (run start tables printed timeline t) entry ≡ true
   conflicts-hold-here =
-      by-transaction tables printed timeline t entry only cut (conflict_test (run tables printed timeline t) entry)
+      by-transaction start tables printed timeline t entry only cut (conflict_test (run start tables printed timeline t) entry)
       (λ o at within. conflict-inside entry.reply.who refl o at within (write_of entry.command) refl)
-      (λ u checked is_asked is. ap (λ (asked : Command). option_map_or (λ write. conflict_holds (run tables printed timeline t) u write.0 entry entry.reply.said) (write_of asked) true) is_asked)
+      (λ u checked is_asked is. ap (λ (asked : Command). option_map_or (λ write. conflict_holds (run start tables printed timeline t) u write.0 entry entry.reply.said) (write_of asked) true) is_asked)
       (open_of entry.reply.who cut.machine) refl cut.change

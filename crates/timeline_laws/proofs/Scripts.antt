@@ -375,18 +375,18 @@ IsReadBack script dues told = reading script.tables dues [] (lines_from script.t
 
 -- The printed text of a timeline is read back.
 pub timeline-read : TimelineIsRead
-timeline-read script told timeline valid may t =
+timeline-read script told timeline valid first may t =
     let sound = script-sound script valid in
     let laid = script-laid script sound.tables in
-    let replies = timeline-replies script told timeline (tables-named script.tables sound.tables sound.names) (rounds-due script 1 script.rounds sound.lines) may t in
+    let replies = timeline-replies script told timeline first (tables-named script.tables sound.tables sound.names) (rounds-due script 1 script.rounds sound.lines) may t in
     subst (λ (dues : List Due). IsReadBack script dues told) (sym laid.is)
     (pieces-read script.tables (names-plain script.tables sound.tables) (names-apart script.tables sound.tables sound.names) laid.pieces laid.formed [] told
     (subst (λ (dues : List Due). AreReplies script.tables [] dues told) laid.is replies))
 
 -- The printed text of a timeline is explained.
 pub run-explained : RunIsExplained
-run-explained script told timeline valid none may t = timeline-explained script (text_of script told) (printed_of script told) timeline none (timeline-read script told timeline valid may t) t
+run-explained script told timeline valid first may t = timeline-explained script (text_of script told) (printed_of script told) timeline (timeline-read script told timeline valid first may t) t
 
 -- So is that of replies that came about as they are printed.
 pub in-turn-explained : InTurnIsExplained
-in-turn-explained script told valid none may runs = run-explained script told (printed_of script told) valid none may (printed-in-turn script told runs)
+in-turn-explained script told valid first may runs = run-explained script told (printed_of script told) valid first may (printed-in-turn script told runs)

@@ -4,7 +4,8 @@ use Rattle.std.specs.Prelude.{is_some, fold, length, IsSome}
 use Rattle.std.proofs.lemmas.List.Elements.{filter-append}
 use Rattle.cell_model.specs.declared.table.TableDecl.{TableDecl}
 use Rattle.cell_model.specs.declared.cell.Cell.{Cell}
-use Rattle.isolation_spec.specs.Contents.{WriteSet, at_place, place_at, contents_of, contents_between, numbers_between}
+use Rattle.isolation_spec.specs.Commits.{AreCommitsOf}
+use Rattle.isolation_spec.specs.Contents.{History, WriteSet, at_place, place_at, contents_of, contents_between, numbers_between}
 use Rattle.isolation_spec.specs.Checked.{step_with, stale_of}
 use Rattle.isolation_spec.specs.Reads.{ReadSet}
 use Rattle.isolation_spec.specs.declared.read.Read.{Read}
@@ -26,12 +27,13 @@ use Rattle.outcome_spec.specs.Entries.{Entry, is_same}
 use Rattle.outcome_spec.specs.Stale.{reads_after}
 use Rattle.outcome_spec.specs.Forms.{Due, dues_of, command_shown, entry_behind, is_within, is_worker, within_behind, is_upkeep}
 use Rattle.outcome_spec.specs.Answers.{is_acceptable}
-use Rattle.timeline_spec.specs.Timeline.{open_of, said_of, Tells, request_of, TakesAs, Takes, Aside, ExportsBy, ExportsWithin, is_of_upkeep, Each, InOrder, Timeline}
+use Rattle.timeline_spec.specs.Timeline.{open_of, said_of, Tells, request_of, TakesAs, Takes, Aside, ExportsBy, ExportsWithin, is_of_upkeep, Each, InOrder, TimelineFrom}
 use Rattle.outcome_spec.specs.Entries.{thread}
 use Rattle.timeline_spec.specs.Printed.{printed_from, printed_of}
 use Rattle.timeline_spec.specs.Forms.{IsBeginReply, IsReplyWithin, IsReplyWithout, MayStand, AllMayStand}
 use Rattle.timeline_laws.proofs.Stated.{AreReplies, IsReply, RowsFit}
 use Rattle.timeline_laws.proofs.Kept.{AreNamed, printed-rows-fit}
+use Rattle.timeline_laws.proofs.Placed.{commits-written}
 use Rattle.timeline_laws.proofs.Tests.{or-last}
 use Rattle.workload_spec.specs.Valid.{is_command}
 use Rattle.workload_spec.specs.declared.script.Script.{Script}
@@ -311,13 +313,13 @@ EachDue tables [] = Unit {0}
 EachDue tables (due ∷ dues) = IsDue tables due × EachDue tables dues
 
 -- A reply stands in the state that its place in the timeline has.
-module _ (tables : List TableDecl) (printed timeline : List Entry) (t : Timeline tables printed timeline) (order : InOrder printed) where
+module _ (start : History) (tables : List TableDecl) (printed timeline : List Entry) (t : TimelineFrom start tables printed timeline) (order : InOrder printed) where
   -- The lines in front say that one is in a transaction where the machine does.
-  within-is : (earlier : List Entry) (entry : Entry) (behind : List Entry) → printed ≡ earlier ++ entry ∷ behind → Only printed entry → (cut : Cut tables timeline (last tables printed timeline t) entry)
+  within-is : (earlier : List Entry) (entry : Entry) (behind : List Entry) → printed ≡ earlier ++ entry ∷ behind → Only printed entry → (cut : Cut start tables timeline (last start tables printed timeline t) entry)
       → is_within entry.reply.who earlier ≡ is_some (open_of entry.reply.who cut.machine)
   within-is earlier entry behind whole only cut =
       let who = entry.reply.who in
-      let at = at-cut tables printed timeline t entry only cut in
+      let at = at-cut start tables printed timeline t entry only cut in
       let mine : thread who printed ≡ thread who earlier ++ entry ∷ thread who behind =
       ap (thread who) whole ∙ filter-append (λ other. is_same other.reply.who who) earlier (entry ∷ behind)
       ∙ ap (λ (b : Bool). thread who earlier ++ cond b (entry ∷ thread who behind) (thread who behind)) (same-itself who) in
@@ -332,7 +334,7 @@ module _ (tables : List TableDecl) (printed timeline : List Entry) (t : Timeline
 
   -- a due's reply, with what its place in the timeline says
   reply-of : (earlier : List Entry) (due : Due) (told : Said) (behind : List Entry) → IsDue tables due → printed ≡ earlier ++ entry_behind tables earlier due told ∷ behind
-      → Only printed (entry_behind tables earlier due told) → Cut tables timeline (last tables printed timeline t) (entry_behind tables earlier due told) → RowsFit tables (command_shown due) told
+      → Only printed (entry_behind tables earlier due told) → Cut start tables timeline (last start tables printed timeline t) (entry_behind tables earlier due told) → RowsFit tables (command_shown due) told
       → MayStand due.command told → IsReply (is_within due.who earlier) due.command told × RowsFit tables due.command told
   reply-of earlier due told behind (inl session) whole only cut fit may =
       let entry = entry_behind tables earlier due told in
@@ -351,7 +353,7 @@ module _ (tables : List TableDecl) (printed timeline : List Entry) (t : Timeline
 
   -- Replies from one on, each at its place, answer what is due in their states.
   all-from : (earlier : List Entry) (dues : List Due) (answers : List (Option Said)) → EachDue tables dues → printed ≡ earlier ++ printed_from tables earlier dues answers → AllMayStand dues answers
-      → Each (λ entry. Only printed entry × Cut tables timeline (last tables printed timeline t) entry) (printed_from tables earlier dues answers)
+      → Each (λ entry. Only printed entry × Cut start tables timeline (last start tables printed timeline t) entry) (printed_from tables earlier dues answers)
       → Each (λ entry. RowsFit tables entry.command entry.reply.said) (printed_from tables earlier dues answers) → AreReplies tables earlier dues answers
   all-from earlier [] [] each whole h facts fit = tt
   all-from earlier [] (told ∷ answers) each whole h facts fit = absurd h
@@ -377,9 +379,9 @@ all-valid tables earlier (due ∷ dues) (Some told ∷ answers) each = (shown-va
 
 -- Replies of a timeline stand in the right states, in whatever order they came about, with rows of
 -- their tables.
-pub timeline-replies : (script : Script) (told : List (Option Said)) (timeline : List Entry) → AreNamed script.tables → EachDue script.tables (dues_of script) → AllMayStand (dues_of script) told
-    → Timeline script.tables (printed_of script told) timeline → AreReplies script.tables [] (dues_of script) told
-timeline-replies script told timeline named each h t =
+pub timeline-replies : (script : Script) (told : List (Option Said)) (timeline : List Entry) → AreCommitsOf script.tables script.begun → AreNamed script.tables → EachDue script.tables (dues_of script) → AllMayStand (dues_of script) told
+    → TimelineFrom script.begun script.tables (printed_of script told) timeline → AreReplies script.tables [] (dues_of script) told
+timeline-replies script told timeline first named each h t =
     let printed = printed_of script told in
-    all-from script.tables printed timeline t (printed-in-order script told) [] (dues_of script) told each refl h (all-facts script.tables printed timeline t)
-    (printed-rows-fit script.tables named printed timeline t (all-valid script.tables [] (dues_of script) told each))
+    all-from script.begun script.tables printed timeline t (printed-in-order script told) [] (dues_of script) told each refl h (all-facts script.begun script.tables printed timeline t)
+    (printed-rows-fit script.tables script.begun (commits-written script.tables script.begun first) named printed timeline t (all-valid script.tables [] (dues_of script) told each))

@@ -4,9 +4,10 @@ use Rattle.std.specs.List.{filter}
 use Rattle.std.specs.List.Sorted.{IsPermutation}
 use Rattle.std.proofs.lemmas.List.Sorted.{IsPermutation-refl, IsPermutation-trans, IsPermutation-sym, IsPermutation-append_right, IsPermutation-filter_both}
 use Rattle.cell_model.specs.declared.table.TableDecl.{TableDecl}
+use Rattle.isolation_spec.specs.Contents.{History}
 use Rattle.workload_spec.specs.declared.reply.Who.{Who}
 use Rattle.outcome_spec.specs.Entries.{Entry, is_same}
-use Rattle.timeline_spec.specs.Timeline.{Timeline}
+use Rattle.timeline_spec.specs.Timeline.{TimelineFrom}
 use Rattle.outcome_spec.specs.Entries.{thread}
 use Rattle.timeline_laws.proofs.Order.{same-is, same-itself}
 
@@ -88,5 +89,5 @@ permuted (suc fuel) (entry ∷ a) b short h =
     (IsPermutation-trans (thread w b ++ others w (entry ∷ a)) (thread w b ++ others w b) b middle (IsPermutation-sym b (thread w b ++ others w b) last))
 
 -- A timeline has the printed replies.
-pub same-of : (tables : List TableDecl) (printed timeline : List Entry) → Timeline tables printed timeline → IsPermutation timeline printed
-same-of tables printed timeline t = permuted (length timeline) timeline printed (omega arith) (λ who. sym (t.threads who))
+pub same-of : (start : History) (tables : List TableDecl) (printed timeline : List Entry) → TimelineFrom start tables printed timeline → IsPermutation timeline printed
+same-of start tables printed timeline t = permuted (length timeline) timeline printed (omega arith) (λ who. sym (t.threads who))

@@ -37,7 +37,7 @@ use Rattle.outcome_spec.specs.Runs.{Span, Run, up_to_end, writes_in, seen_at}
 use Rattle.outcome_spec.specs.Runs.{transaction_of as belongs_to}
 use Rattle.outcome_spec.specs.Answers.{is_cell, is_row, is_total_of, read_holds, reads_hold, is_acceptable, write_holds, writes_hold, got_place, rows_asked, numbers_asked}
 use Rattle.outcome_spec.specs.Stale.{reads_after}
-use Rattle.timeline_spec.specs.Timeline.{open_of, Each, Follows, InOrder, Timeline, said_of, Tells, request_of, TakesAs, Aside, ExportsBy, is_of_upkeep}
+use Rattle.timeline_spec.specs.Timeline.{open_of, Each, Follows, InOrder, TimelineFrom, said_of, Tells, request_of, TakesAs, Aside, ExportsBy, is_of_upkeep}
 use Rattle.outcome_spec.specs.Entries.{thread}
 use Rattle.timeline_laws.proofs.Order.{Each-second, Each-weaker, Each-filter, before-itself, order-front, order-rest, same-is, same-itself}
 use Rattle.timeline_laws.proofs.Spans.{span}
@@ -106,11 +106,11 @@ own-of : (who : Who) (entries : List Entry) → Each (λ entry. is_same entry.re
 own-of who [] = tt
 own-of who (entry ∷ entries) = own-kept who (is_same entry.reply.who who) entry (thread who entries) refl (own-of who entries)
 
-module _ (tables : List TableDecl) (printed timeline : List Entry) (t : Timeline tables printed timeline) (entry : Entry) (only : Only printed entry)
-    (cut : Cut tables timeline (last tables printed timeline t) entry) where
+module _ (start : History) (tables : List TableDecl) (printed timeline : List Entry) (t : TimelineFrom start tables printed timeline) (entry : Entry) (only : Only printed entry)
+    (cut : Cut start tables timeline (last start tables printed timeline t) entry) where
   -- the run that the reply stands in
   abbrev pub here : Run
-  here = run tables printed timeline t
+  here = run start tables printed timeline t
 
   -- whom the reply answers
   abbrev pub its : Who
@@ -122,7 +122,7 @@ module _ (tables : List TableDecl) (printed timeline : List Entry) (t : Timeline
 
   -- the timeline is in order where it is cut at the reply
   pub cut-order : InOrder (cut.front ++ entry ∷ cut.rest)
-  cut-order = its-order printed timeline cut.front entry cut.rest (at-cut tables printed timeline t entry only cut)
+  cut-order = its-order printed timeline cut.front entry cut.rest (at-cut start tables printed timeline t entry only cut)
 
   -- the reply may come about behind each in front
   pub front-follows : Each (λ earlier. Follows earlier entry) cut.front
@@ -167,22 +167,30 @@ module _ (tables : List TableDecl) (printed timeline : List Entry) (t : Timeline
 
   -- The reply belongs to the transaction that its session has open.
   pub belongs-is : (o : Transaction) (within : Within its (thread its cut.front) o) → belongs_to here entry ≡ Some (belongs o within)
-  belongs-is o within = found-open printed timeline cut.front entry cut.rest (at-cut tables printed timeline t entry only cut) o.snapshot within.replies within.spanned
+  belongs-is o within = found-open printed timeline cut.front entry cut.rest (at-cut start tables printed timeline t entry only cut) o.snapshot within.replies within.spanned
 
   -- a reply that opens none belongs to none where its session has none open
   pub belongs-none : open_of its cut.machine ≡ None → snapshot_in entry.reply.said ≡ None → belongs_to here entry ≡ None
   belongs-none at none =
-      found-none printed timeline cut.front entry cut.rest (at-cut tables printed timeline t entry only cut) (subst (Stands its (thread its cut.front)) at (cut.shown.stands its)) none
+      found-none printed timeline cut.front entry cut.rest (at-cut start tables printed timeline t entry only cut) (subst (Stands its (thread its cut.front)) at (cut.shown.stands its)) none
 
   -- the state at a snapshot that the machine had
   pub state-is : (n : ℕ) → n ≤ length cut.machine.history → state_at here.history n ≡ state_at cut.machine.history n
   state-is n low =
-      ap (λ (h : History). fold laid_over [] (take n h)) (history-shown tables printed timeline t ∙ cut.grows.is)
+      ap (λ (h : History). fold laid_over [] (take n h)) (history-shown start tables printed timeline t ∙ cut.grows.is)
       ∙ ap (fold laid_over []) (take-append-le n cut.machine.history cut.grows.more low)
 
   -- the snapshot of what its session has open is not above the commits
   pub bound-is : (o : Transaction) → open_of its cut.machine ≡ Some o → o.snapshot ≤ length cut.machine.history
   bound-is o at = bound-of cut.machine cut.shown.sane its o at
+
+  -- nor is it below those that the store began with
+  pub began-is : (o : Transaction) → open_of its cut.machine ≡ Some o → length start ≤ o.snapshot
+  began-is o at = started-of its at
+    where
+      started-of : (who : Who) → open_of who cut.machine ≡ Some o → length start ≤ o.snapshot
+      started-of (Session session) is = cut.shown.started session o is
+      started-of (Worker worker) is = absurd (let never : ⊥ = cc in never)
 
   -- What the transaction sees.
   pub seen-is : (o : Transaction) (at : open_of its cut.machine ≡ Some o) (within : Within its (thread its cut.front) o) → seen_at here (belongs o within) entry ≡ seen_rows cut.machine o
@@ -370,33 +378,33 @@ pub at-any : (test : Span → Bool) (found : Option Span) → ((u : Span) → te
 at-any test None h = refl
 at-any test (Some u) h = h u
 
-module _ (tables : List TableDecl) (printed timeline : List Entry) (t : Timeline tables printed timeline) (entry : Entry) (only : Only printed entry)
-    (cut : Cut tables timeline (last tables printed timeline t) entry) where
+module _ (start : History) (tables : List TableDecl) (printed timeline : List Entry) (t : TimelineFrom start tables printed timeline) (entry : Entry) (only : Only printed entry)
+    (cut : Cut start tables timeline (last start tables printed timeline t) entry) where
   -- The run that is read from the printed replies.
   abbrev run_here : Run
-  run_here = run tables printed timeline t
+  run_here = run start tables printed timeline t
 
   -- A condition on the transaction of a reply: it holds where a transaction is open in front, and
   -- where the reply opens one.
   pub by-transaction : (test : Span → Bool)
-      → ((o : Transaction) (at : open_of entry.reply.who cut.machine ≡ Some o) (within : Within entry.reply.who (thread entry.reply.who cut.front) o) → test (belongs tables printed timeline t entry only cut o within) ≡ true)
+      → ((o : Transaction) (at : open_of entry.reply.who cut.machine ≡ Some o) (within : Within entry.reply.who (thread entry.reply.who cut.front) o) → test (belongs start tables printed timeline t entry only cut o within) ≡ true)
       → ((u : Span) (checked : Bool) → entry.command ≡ command.Begin checked → entry.reply.said ≡ said.At (length cut.machine.history) → test u ≡ true)
       → (found : Option Transaction) → open_of entry.reply.who cut.machine ≡ found → Change entry.reply.who entry.command entry.reply.said cut.machine cut.after
       → option_map_or test (belongs_to run_here entry) true ≡ true
   by-transaction test inside begins (Some o) at change =
-      let within = within-open tables printed timeline t entry only cut o at in
-      at-some test (belongs_to run_here entry) (belongs tables printed timeline t entry only cut o within) (belongs-is tables printed timeline t entry only cut o within) (inside o at within)
-  by-transaction test inside begins None at (quiet q) = at-none test (belongs_to run_here entry) (belongs-none tables printed timeline t entry only cut at q.opens)
+      let within = within-open start tables printed timeline t entry only cut o at in
+      at-some test (belongs_to run_here entry) (belongs start tables printed timeline t entry only cut o within) (belongs-is start tables printed timeline t entry only cut o within) (inside o at within)
+  by-transaction test inside begins None at (quiet q) = at-none test (belongs_to run_here entry) (belongs-none start tables printed timeline t entry only cut at q.opens)
   by-transaction test inside begins None at (opens o) = at-any test (belongs_to run_here entry) (λ u. begins u o.checked o.asked_is o.said_is)
-  by-transaction test inside begins None at (writes w) = at-none test (belongs_to run_here entry) (belongs-none tables printed timeline t entry only cut at (ap snapshot_in w.said_is))
-  by-transaction test inside begins None at (ends e) = at-none test (belongs_to run_here entry) (belongs-none tables printed timeline t entry only cut at (ended-unopened entry.reply.said e.t.own e.said_is))
-  by-transaction test inside begins None at (commits c) = at-none test (belongs_to run_here entry) (belongs-none tables printed timeline t entry only cut at (ap snapshot_in c.said_is))
+  by-transaction test inside begins None at (writes w) = at-none test (belongs_to run_here entry) (belongs-none start tables printed timeline t entry only cut at (ap snapshot_in w.said_is))
+  by-transaction test inside begins None at (ends e) = at-none test (belongs_to run_here entry) (belongs-none start tables printed timeline t entry only cut at (ended-unopened entry.reply.said e.t.own e.said_is))
+  by-transaction test inside begins None at (commits c) = at-none test (belongs_to run_here entry) (belongs-none start tables printed timeline t entry only cut at (ap snapshot_in c.said_is))
 
   -- Reads.
   pub reads : reads_hold run_here entry ≡ true
   reads =
       by-transaction (λ u. read_holds (seen_at run_here u entry) entry.command entry.reply.said)
-      (λ o at within. ap (λ (s : State). read_holds s entry.command entry.reply.said) (seen-is tables printed timeline t entry only cut o at within)
+      (λ o at within. ap (λ (s : State). read_holds s entry.command entry.reply.said) (seen-is start tables printed timeline t entry only cut o at within)
       ∙ takes-read tables cut.front cut.machine entry cut.after entry.reply.who entry.command o refl at cut.takes)
       (λ u checked is_asked is. ap (read_holds (seen_at run_here u entry) entry.command) is ∙ begun-read (seen_at run_here u entry) entry.command (length cut.machine.history))
       (open_of entry.reply.who cut.machine) refl cut.change
@@ -405,7 +413,7 @@ module _ (tables : List TableDecl) (printed timeline : List Entry) (t : Timeline
   pub writes-by-rows : writes_hold run_here entry ≡ true
   writes-by-rows =
       by-transaction (λ u. write_holds (is_acceptable (seen_at run_here u entry) entry.command) entry.reply.said)
-      (λ o at within. ap (λ (s : State). write_holds (is_acceptable s entry.command) entry.reply.said) (seen-is tables printed timeline t entry only cut o at within)
+      (λ o at within. ap (λ (s : State). write_holds (is_acceptable s entry.command) entry.reply.said) (seen-is start tables printed timeline t entry only cut o at within)
       ∙ takes-write tables cut.front cut.machine entry cut.after entry.reply.who entry.command o refl at cut.takes)
       (λ u checked is_asked is. ap (write_holds (is_acceptable (seen_at run_here u entry) entry.command)) is)
       (open_of entry.reply.who cut.machine) refl cut.change

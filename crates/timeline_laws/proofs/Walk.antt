@@ -1,5 +1,5 @@
 -- What the replies in front show of the machine that they leave.
-use Rattle.std.proofs.Common.{◌≡◌, ℕ, ◌+◌, Bool, true, false, cond, eqb, nat_le, List, [], ◌∷◌, ◌++◌, length, Option, None, Some, refl, sym, ap, ◌∙◌, subst, arith, append_assoc, append-nil, ◌⊎◌, inl, inr}
+use Rattle.std.proofs.Common.{◌≡◌, ℕ, ◌+◌, Bool, true, false, cond, eqb, nat_le, List, [], ◌∷◌, ◌++◌, length, ◌-◌, ◌≤◌, Option, None, Some, refl, sym, ap, ◌∙◌, subst, arith, append_assoc, append-nil, ◌⊎◌, inl, inr}
 use Rattle.outcome_spec.specs.Forms.{is_within}
 use Rattle.std.specs.Prelude.{is_some, option_map}
 use Rattle.std.specs.Option.{option_or, option_map_or}
@@ -14,7 +14,7 @@ use Rattle.std.proofs.lemmas.List.Sums.{fold_push}
 use Rattle.cell_model.specs.declared.cell.Cell.{Cell}
 use Rattle.isolation_spec.specs.Contents.{place_cmp, WriteSet, History}
 use Rattle.isolation_spec.specs.declared.place.Place.{Place}
-use Rattle.isolation_spec.specs.Machine.{IsolationMachine, opening, transaction_of, with_own, without, Transaction}
+use Rattle.isolation_spec.specs.Machine.{IsolationMachine, opening_from, transaction_of, with_own, without, Transaction}
 use Rattle.workload_spec.specs.declared.reply.Who.{Who}
 use Rattle.workload_spec.specs.declared.reply.Who.TheVariants.{Session, Worker}
 use Rattle.workload_spec.specs.declared.reply.Said.{Said}
@@ -26,10 +26,10 @@ use Rattle.outcome_spec.specs.Stale.{reads_after}
 use Rattle.isolation_spec.specs.Reads.{ReadSet}
 use Rattle.timeline_spec.specs.Timeline.{open_of}
 use Rattle.outcome_spec.specs.Entries.{thread}
-use Rattle.timeline_laws.proofs.Ranges.{range-push}
+use Rattle.timeline_laws.proofs.Ranges.{range-next}
 use Rattle.timeline_laws.proofs.Order.{same-is}
 use Rattle.timeline_laws.proofs.Spans.{Past, past-nil, past-idle, past-opens, past-goes_on, past-ends}
-use Rattle.timeline_laws.proofs.Machine.{Sane, sane-opening, sane-begin, sane-end, sane-commit, sane-write, begun, entering, at-begun, at-ended, at-written, its-session, free-none, eqb-itself, Free}
+use Rattle.timeline_laws.proofs.Machine.{Started, started-begin, started-end, started-write, Sane, sane-opening, sane-begin, sane-end, sane-commit, sane-write, begun, entering, at-begun, at-ended, at-written, its-session, free-none, eqb-itself, Free}
 use Rattle.timeline_laws.proofs.Agrees.{Agree, agree-by, others-open}
 use Rattle.timeline_laws.proofs.ReadSets.{ReadsAre, reads-push, reads-begin, reads-go_on}
 use Rattle.timeline_laws.proofs.Steps.{Change, quiet, opens, writes, ends, commits, Quiet, shows_at_most}
@@ -199,26 +199,36 @@ stands-by front machine after entry who false is change h =
     (subst (Stands who (thread who front)) (sym (others-open entry.reply.who who entry.command entry.reply.said machine after is change)) h)
 
 -- Before any reply nobody has a transaction open.
-nobody : (who : Who) → Stands who [] (open_of who opening)
-nobody (Session session) = past-nil (Session session)
-nobody (Worker worker) = past-nil (Worker worker)
+nobody : (start : History) (who : Who) → Stands who [] (open_of who (opening_from start))
+nobody start (Session session) = past-nil (Session session)
+nobody start (Worker worker) = past-nil (Worker worker)
 
 -- Before any reply the lines and the machine say that nobody is in a transaction.
-nobody-within : (who : Who) → is_within who [] ≡ is_some (open_of who opening)
-nobody-within (Session session) = refl
-nobody-within (Worker worker) = refl
+nobody-within : (start : History) (who : Who) → is_within who [] ≡ is_some (open_of who (opening_from start))
+nobody-within start (Session session) = refl
+nobody-within start (Worker worker) = refl
 
--- What the replies in front show of the machine.
-pub record Shown (front : List Entry) (machine : IsolationMachine) : Type 0 where
+-- What the replies in front show of the machine of a store that began with some commits.
+pub record Shown (start : History) (front : List Entry) (machine : IsolationMachine) : Type 0 where
   pub sane : Sane machine
-  pub commits_are : shown_in commit_in front ≡ range_with_len 1 (length machine.history)
+  pub least : length start ≤ length machine.history
+  pub started : Started (length start) machine
+  pub commits_are : shown_in commit_in front ≡ range_with_len (length start + 1) (length machine.history - length start)
   pub numbers : list_all (λ shown. nat_le shown (length machine.history)) (shown_in number_shown front) ≡ true
   pub stands : (who : Who) → Stands who (thread who front) (open_of who machine)
   pub agrees : Agree front machine
 
 -- what no replies show of the machine at first
-pub shown-opening : Shown [] opening
-shown-opening = record { sane = sane-opening; commits_are = refl; numbers = refl; stands = nobody; agrees = nobody-within }
+pub shown-opening : (start : History) → Shown start [] (opening_from start)
+shown-opening start = record {
+  sane = sane-opening start;
+  least = omega arith;
+  started = λ session t h. absurd (let never : ⊥ = cc in never);
+  commits_are = ap (range_with_len (length start + 1)) (let none : 0 ≡ length start - length start = omega arith in none);
+  numbers = refl;
+  stands = nobody start;
+  agrees = nobody-within start;
+}
 
 -- One more reply puts its number behind those shown before, if it shows one.
 pub shown-more : (shown : Said → Option ℕ) (front : List Entry) (entry : Entry)
@@ -246,7 +256,7 @@ all-more n (x ∷ xs) h =
     let more : nat_le x (n + 1) ≡ true = grind (arith, nat_tests) in
     and_from (nat_le x (n + 1)) (list_all (λ y. nat_le y (n + 1)) xs) more (all-more n xs parts.1)
 
-module _ (front : List Entry) (machine after : IsolationMachine) (entry : Entry) (h : Shown front machine) where
+module _ (start : History) (front : List Entry) (machine after : IsolationMachine) (entry : Entry) (h : Shown start front machine) where
   -- Behind one more reply, everyone's replies have open what the machine has.
   all-stand : Change entry.reply.who entry.command entry.reply.said machine after → (who : Who) → Stands who (thread who (front ++ entry ∷ [])) (open_of who after)
   all-stand change who = stands-by front machine after entry who (is_same entry.reply.who who) refl change (h.stands who)
@@ -256,13 +266,15 @@ module _ (front : List Entry) (machine after : IsolationMachine) (entry : Entry)
   all-agree change who = agree-by front machine after entry h.agrees change who (is_same entry.reply.who who) refl
 
   -- a reply that leaves the commits
-  uncommitted : (told : Said) → entry.reply.said ≡ told → commit_in told ≡ None → after.history ≡ machine.history → shows_at_most (length machine.history) told ≡ true → Sane after
-      → ((who : Who) → Stands who (thread who (front ++ entry ∷ [])) (open_of who after)) → Agree (front ++ entry ∷ []) after → Shown (front ++ entry ∷ []) after
-  uncommitted told is none same shown sane stand agree = record {
+  uncommitted : (told : Said) → entry.reply.said ≡ told → commit_in told ≡ None → after.history ≡ machine.history → shows_at_most (length machine.history) told ≡ true → Sane after → Started (length start) after
+      → ((who : Who) → Stands who (thread who (front ++ entry ∷ [])) (open_of who after)) → Agree (front ++ entry ∷ []) after → Shown start (front ++ entry ∷ []) after
+  uncommitted told is none same shown sane started stand agree = record {
+    least = subst (λ (history : History). length start ≤ length history) (sym same) h.least;
+    started = started;
     agrees = agree;
     sane = sane;
     commits_are = shown-more commit_in front entry ∙ ap (λ (o : Option ℕ). shown_in commit_in front ++ cons_option o []) (ap commit_in is ∙ none) ∙ append-nil (shown_in commit_in front) ∙ h.commits_are
-        ∙ ap (λ (history : History). range_with_len 1 (length history)) (sym same);
+        ∙ ap (λ (history : History). range_with_len (length start + 1) (length history - length start)) (sym same);
     numbers = subst (λ (history : History). list_all (λ n. nat_le n (length history)) (shown_in number_shown (front ++ entry ∷ [])) ≡ true) (sym same)
         (numbers-more (length machine.history) front entry h.numbers (subst (λ (s : Said). shows_at_most (length machine.history) s ≡ true) (sym is) shown));
     stands = stand;
@@ -278,26 +290,35 @@ module _ (front : List Entry) (machine after : IsolationMachine) (entry : Entry)
   end-shows told own (inr is) = (ap commit_in is.0, ap (shows_at_most (length machine.history)) is.0)
 
   -- One more reply shows what holds of the machine behind it.
-  pub shown-step : Change entry.reply.who entry.command entry.reply.said machine after → Shown (front ++ entry ∷ []) after
-  shown-step (quiet q) = uncommitted entry.reply.said refl q.commit (ap (λ (m : IsolationMachine). m.history) q.same) q.shown (subst Sane (sym q.same) h.sane) (all-stand (quiet q)) (all-agree (quiet q))
+  pub shown-step : Change entry.reply.who entry.command entry.reply.said machine after → Shown start (front ++ entry ∷ []) after
+  shown-step (quiet q) = uncommitted entry.reply.said refl q.commit (ap (λ (m : IsolationMachine). m.history) q.same) q.shown (subst Sane (sym q.same) h.sane)
+      (subst (Started (length start)) (sym q.same) h.started) (all-stand (quiet q)) (all-agree (quiet q))
   shown-step (opens o) =
       uncommitted (said.At (length machine.history)) o.said_is refl (ap (λ (m : IsolationMachine). m.history) o.is) (itself-most (length machine.history))
-      (subst Sane (sym o.is) (sane-begin o.session machine h.sane o.none)) (all-stand (opens o)) (all-agree (opens o))
+      (subst Sane (sym o.is) (sane-begin o.session machine h.sane o.none))
+      (subst (Started (length start)) (sym o.is) (started-begin (length start) o.session machine h.least h.started)) (all-stand (opens o)) (all-agree (opens o))
   shown-step (writes w) =
       uncommitted said.Accepted w.said_is refl (ap (λ (m : IsolationMachine). m.history) w.is) refl
       (subst Sane (sym w.is) (sane-write w.session w.place w.change machine w.t h.sane w.at
-      (subst (λ (s : ℕ). Free s w.place machine.open_transactions) (its-session w.session machine.open_transactions w.t w.at) (free-none w.t.session w.place machine.open_transactions w.clear.rival)) w.clear.last)) (all-stand (writes w)) (all-agree (writes w))
+      (subst (λ (s : ℕ). Free s w.place machine.open_transactions) (its-session w.session machine.open_transactions w.t w.at) (free-none w.t.session w.place machine.open_transactions w.clear.rival)) w.clear.last))
+      (subst (Started (length start)) (sym w.is) (started-write (length start) w.session w.place w.change machine h.started)) (all-stand (writes w)) (all-agree (writes w))
   shown-step (ends e) =
       let shows = end-shows entry.reply.said e.t.own e.said_is in
-      uncommitted entry.reply.said refl shows.0 (ap (λ (m : IsolationMachine). m.history) e.is) shows.1 (subst Sane (sym e.is) (sane-end e.session machine h.sane)) (all-stand (ends e)) (all-agree (ends e))
+      uncommitted entry.reply.said refl shows.0 (ap (λ (m : IsolationMachine). m.history) e.is) shows.1 (subst Sane (sym e.is) (sane-end e.session machine h.sane))
+      (subst (Started (length start)) (sym e.is) (started-end (length start) e.session machine h.started)) (all-stand (ends e)) (all-agree (ends e))
   shown-step (commits c) =
       let longer : length after.history ≡ length machine.history + 1 = ap (λ (m : IsolationMachine). length m.history) c.is ∙ length_push machine.history c.t.own in
       let its : commit_in entry.reply.said ≡ Some (length machine.history + 1) = ap commit_in c.said_is in
+      let next_is : length machine.history + 1 ≡ length start + 1 + (length machine.history - length start) = omega (arith, h.least) in
+      let count_is : length machine.history - length start + 1 ≡ length after.history - length start = omega (arith, longer, h.least) in
       let low : shows_at_most (length machine.history + 1) entry.reply.said ≡ true = ap (shows_at_most (length machine.history + 1)) c.said_is ∙ itself-most (length machine.history + 1) in
       record {
         sane = subst Sane (sym c.is) (sane-commit c.session machine c.t h.sane c.at);
+        least = omega (arith, longer, h.least);
+        started = subst (Started (length start)) (sym c.is) (started-end (length start) c.session machine h.started);
         commits_are = shown-more commit_in front entry ∙ ap (λ (o : Option ℕ). shown_in commit_in front ++ cons_option o []) its ∙ ap (λ (xs : List ℕ). xs ++ (length machine.history + 1) ∷ []) h.commits_are
-            ∙ sym (range-push (length machine.history)) ∙ ap (range_with_len 1) (sym longer);
+            ∙ ap (λ (n : ℕ). range_with_len (length start + 1) (length machine.history - length start) ++ n ∷ []) next_is
+            ∙ sym (range-next (length start + 1) (length machine.history - length start)) ∙ ap (range_with_len (length start + 1)) count_is;
         numbers = subst (λ (n : ℕ). list_all (λ m. nat_le m n) (shown_in number_shown (front ++ entry ∷ [])) ≡ true) (sym longer)
             (numbers-more (length machine.history + 1) front entry (all-more (length machine.history) (shown_in number_shown front) h.numbers) low);
         stands = all-stand (commits c);

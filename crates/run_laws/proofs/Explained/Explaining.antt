@@ -20,7 +20,7 @@ use Rattle.event_spec.specs.Effects.{CoreEvent, change_judged, insert_judged, is
 use Rattle.event_spec.specs.Parts.{Parts, Shape, below, blocks_of, body_at, desk_at, is_head}
 use Rattle.event_spec.specs.Replay.{IsLawfulFrom, after, opening}
 use Rattle.event_spec.specs.Replies.{reply_to, reply_to_commit, reply_to_image, reply_to_seal, reply_to_write}
-use Rattle.isolation_spec.specs.Contents.{History, key_of}
+use Rattle.isolation_spec.specs.Contents.{key_of}
 use Rattle.isolation_spec.specs.Machine.{IsolationMachine}
 use Rattle.isolation_spec.specs.Machine as machine
 use Rattle.isolation_spec.specs.declared.read.Read.{Read}
@@ -31,7 +31,6 @@ use Rattle.timeline_laws.proofs.Scripts.{run-explained}
 use Rattle.timeline_laws.proofs.Tests.{and-false}
 use Rattle.timeline_spec.specs.Forms.{AllMayStand, MayAnswer, MayStand}
 use Rattle.timeline_spec.specs.Printed.{printed_of}
-use Rattle.timeline_spec.specs.Timeline.{TimelineFrom}
 use Rattle.workload_spec.specs.declared.command.Command.{Command}
 use Rattle.workload_spec.specs.declared.command.Command.TheVariants as command
 use Rattle.workload_spec.specs.declared.reply.Said.{Said}
@@ -406,6 +405,5 @@ told_stands script log text valid ran fit =
 pub runs_are_explained : RunsAreExplained
 runs_are_explained script log text valid ran fit =
     subst (Explained script) (sym ran.printed)
-    (run-explained script (told_in ran.rounds) (replies_at (moments_of script ran.rounds)) valid.valid valid.shape.none (told_stands script log text valid ran fit)
-    (subst (λ (first : History). TimelineFrom first script.tables (printed_of script (told_in ran.rounds)) (replies_at (moments_of script ran.rounds))) valid.shape.none
-    (runs_give_timelines script log text valid ran)))
+    (run-explained script (told_in ran.rounds) (replies_at (moments_of script ran.rounds)) valid.valid valid.shape.commits (told_stands script log text valid ran fit)
+    (runs_give_timelines script log text valid ran))

@@ -169,7 +169,6 @@ module _ (script : Script) (valid : is_valid script ≡ true) where
     commits = subst (AreCommitsOf script.tables) (sym none) (All-nil (IsCommitOf script.tables));
     few = let long : length script.begun ≡ 0 = ap length none in omega (arith, long);
     room = λ t has. let rows : length (rows_left script.begun t) ≡ 0 = ap (λ (first : History). length (rows_left first t)) none in omega (arith, rows);
-    none = none;
   }
     where
       parts : (decl : TableDecl) → is_table decl ≡ true → (are_slots decl.schema decl.slots ≡ true) × (are_blocks decl.blocks ≡ true)

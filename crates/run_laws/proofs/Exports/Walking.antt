@@ -12,7 +12,7 @@ use Rattle.outcome_spec.specs.Tables.{blocks_at, columns_at}
 use Rattle.outcome_spec.specs.Upkeep.{exported_table}
 use Rattle.timeline_laws.proofs.Cuts.{change-of}
 use Rattle.timeline_laws.proofs.Histories.{run}
-use Rattle.timeline_spec.specs.Timeline.{Each, Timeline, open_of}
+use Rattle.timeline_spec.specs.Timeline.{Each, TimelineFrom, open_of}
 use Rattle.workload_spec.specs.declared.command.Command.{Command}
 use Rattle.workload_spec.specs.declared.command.Command.TheVariants as command
 use Rattle.workload_spec.specs.declared.reply.Said.{Said}
@@ -77,14 +77,14 @@ seal_other command.Abort e = absurd (true_false (sym e))
 export_other : (asked : Command) (table : ℕ) → asked ≡ command.Export table → is_single asked ≡ false
 export_other asked table is = ap is_single is
 
-module _ (script : Script) (valid : IsRunnable script) (printed timeline : List Entry) (t : Timeline script.tables printed timeline) (bytes : List ℕ) where
+module _ (script : Script) (valid : IsRunnable script) (printed timeline : List Entry) (t : TimelineFrom script.begun script.tables printed timeline) (bytes : List ℕ) where
   -- the lines that are to come
   abbrev ToCome : List Entry → IsolationMachine → List Entry → Type 0
-  ToCome lines at entries = Rest script.tables printed timeline t lines at entries
+  ToCome lines at entries = Rest script.begun script.tables printed timeline t lines at entries
 
   -- what a line says of what was sent
   abbrev pub Says : Entry → Type 0
-  Says entry = SaysOfBytes (run script.tables printed timeline t) entry entry.command bytes
+  Says entry = SaysOfBytes (run script.begun script.tables printed timeline t) entry entry.command bytes
 
   -- ---- a line of a call that ended
 
@@ -115,7 +115,7 @@ module _ (script : Script) (valid : IsRunnable script) (printed timeline : List 
     line_says entry entries is rest sent = go entry.command refl
       where
         exports : (table : ℕ) → entry.command ≡ command.Export table → (seat ≤ script.sessions) ⊎ (script.sessions < seat)
-            → SaysOfBytes (run script.tables printed timeline t) entry (command.Export table) bytes
+            → SaysOfBytes (run script.begun script.tables printed timeline t) entry (command.Export table) bytes
         exports table asked (inr high) =
             let never : command.Observe ≡ command.Export table = ap (λ w. command_told w call.command) (sym (worker_at script seat high)) ∙ sym is.2 ∙ asked in
             absurd (let no : ⊥ = cc in no)
@@ -126,10 +126,10 @@ module _ (script : Script) (valid : IsRunnable script) (printed timeline : List 
             (subst (λ (c : Command). IfSome (exported_table c) (λ table. IfSome call.told (λ told. SendsAs (columns_at script.tables table) (blocks_at script.tables table) call.made told bytes))) mine sent) in
             let says = says_by script valid seat parts front at next call is_ended table mine bytes entry.reply.said is.0 as_sent in
             let who : entry.reply.who ≡ Session seat = is.1 ∙ session_at script seat low in
-            says_so script.tables printed timeline t lines at entry entries rest bytes (open_of entry.reply.who at) refl table entry.reply.said
+            says_so script.begun script.tables printed timeline t lines at entry entries rest bytes (open_of entry.reply.who at) refl table entry.reply.said
             (subst (λ (w : Who). SaysBy script.tables at (open_of w at) table entry.reply.said bytes) (sym who) says)
 
-        go : (asked : Command) → entry.command ≡ asked → SaysOfBytes (run script.tables printed timeline t) entry asked bytes
+        go : (asked : Command) → entry.command ≡ asked → SaysOfBytes (run script.begun script.tables printed timeline t) entry asked bytes
         go (command.Export table) asked = exports table asked (either script seat)
         go _ asked = tt
 
@@ -142,7 +142,7 @@ module _ (script : Script) (valid : IsRunnable script) (printed timeline : List 
     line_done ms (Some entry) is sent rest behind = (
       line_says entry (replies_at ms) is rest sent,
       behind (subst (λ m. ToCome (lines ++ entry ∷ []) m (replies_at ms)) (sym (same_next entry (replies_at ms) is rest))
-          (rest_next script.tables printed timeline t lines at entry (replies_at ms) rest)),
+          (rest_next script.begun script.tables printed timeline t lines at entry (replies_at ms) rest)),
     )
 
   -- ---- one moment
