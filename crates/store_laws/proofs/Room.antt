@@ -1,5 +1,5 @@
 -- What each event makes of the slots in use.
-use Rattle.std.proofs.Common.{◌≡◌, ◌≢◌, ℕ, zero, suc, ◌+◌, ◌*◌, ◌/◌, ◌%◌, ◌<◌, ◌≤◌, ℤ, Bool, true, false, cond, not, ◌&&◌, ◌==◌, nat_lt, List, [], ◌∷◌, fold, length, map, replicate, Option, None, Some, is_none, is_some, unwrap_or, sum_by, refl, sym, ap, ◌∙◌, subst, arith}
+use Rattle.std.proofs.Common.{◌≡◌, ◌≢◌, ℕ, zero, suc, ◌+◌, ◌*◌, ◌/◌, ◌%◌, ◌<◌, ◌≤◌, ℤ, Bool, true, false, cond, not, ◌&&◌, ◌==◌, nat_lt, List, [], ◌∷◌, fold, length, map, Option, None, Some, is_none, is_some, unwrap_or, sum_by, refl, sym, ap, ◌∙◌, subst, arith}
 use mathlib.Core.Logic.{inl, inr}
 use Rattle.std.specs.Prelude.{Result, Ok, Err, option_map, slice_get}
 use Rattle.std.specs.List.{list_all, range_with_len}
@@ -613,7 +613,7 @@ sum_filled f slots last a (suc d) (suc n) less full here none =
     let e : a + suc d ≡ a + 1 + d = omega arith in
     let first = full a (omega arith) (omega arith) in
     let rest = sum_filled f slots last (a + 1) d n (omega (arith, less)) (λ b low high. full b (omega (arith, low)) (omega (arith, high))) (sym (ap f e) ∙ here)
-        (λ b low high. none b (omega (arith, low)) (omega (arith, high))) in
+    (λ b low high. none b (omega (arith, low)) (omega (arith, high))) in
     let k = sum_by-cons f a (range_with_len (a + 1) n) in
     let m : suc d * slots ≡ slots + d * slots = grind arith in
     omega (arith, first, rest, k, m)
@@ -648,12 +648,12 @@ opens_with_rows sh t shape has = go (length (rows_first sh t)) refl
     go zero is = (
       sum_zero (used_in sh (opening sh) t) 0 (blocks_of sh t)
           (λ b low high. uses (opening_head (blocks_of sh t) (slots_of sh t) 0) b (b == 0) true (head_is 0 is) refl (empty b (omega (arith, high)) (omega (arith, is))) ∙ either (b == 0))
-      ∙ sym is,
+          ∙ sym is,
       ap (λ (h : Head). h.inserts) (head_is 0 is) ∙ sym is,
     )
     go (suc before) is = (
       sum_filled (used_in sh (opening sh) t) (slots_of sh t) (before % slots_of sh t + 1) 0 (before / slots_of sh t) (blocks_of sh t) within full here behind
-      ∙ (let whole = row_number (slots_of sh t) before in omega (arith, is, whole)),
+          ∙ (let whole = row_number (slots_of sh t) before in omega (arith, is, whole)),
       ap (λ (h : Head). h.inserts) (head_is (suc before) is) ∙ sym is,
     )
       where
