@@ -2,6 +2,7 @@ pub mod Heads
 pub mod Shards
 pub mod Numbering
 pub mod Placing
+pub mod Plain
 pub mod Changing
 pub mod Telling
 pub mod Front

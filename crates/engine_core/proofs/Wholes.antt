@@ -17,7 +17,7 @@ use Rattle.core_laws.proofs.Events.Naming.{at_name, body_named, shard_named}
 use Rattle.core_laws.proofs.Events.Places.{shard_small}
 use Rattle.event_spec.specs.Sound.{IsOfKind, IsShape}
 use Rattle.core_laws.proofs.Frames.Reached.{core_kept, core_opens}
-use Rattle.core_laws.proofs.Logs.Opening.{no_rows}
+use Rattle.core_parts.proofs.Plain.{no_rows}
 use Rattle.isolation_spec.specs.Commits.{AreCommitsOf, IsCommitOf}
 use Rattle.core_laws.specs.Frames.Shards.{CoreHolds}
 use Rattle.hall_rule.specs.Hands.{Agrees, Holds, all_in}
@@ -159,7 +159,6 @@ shape_is sh may none = record {
   commits = subst (AreCommitsOf sh.tables) (sym none) (All-nil (IsCommitOf sh.tables));
   few = let long : length sh.first ≡ 0 = ap length none in omega (arith, long);
   room = λ t has. let rows : length (rows_first sh t) ≡ 0 = ap length (no_rows sh none t) in omega (arith, rows);
-  none = none;
 }
 
 -- the hand of an opening core is whole

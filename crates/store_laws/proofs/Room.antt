@@ -1,9 +1,10 @@
 -- What each event makes of the slots in use.
-use Rattle.std.proofs.Common.{◌≡◌, ◌≢◌, ℕ, zero, suc, ◌+◌, ◌*◌, ◌<◌, ◌≤◌, ℤ, Bool, true, false, cond, not, ◌&&◌, ◌==◌, nat_lt, List, [], ◌∷◌, fold, length, map, replicate, Option, None, Some, is_none, is_some, unwrap_or, sum_by, refl, sym, ap, ◌∙◌, subst, arith}
+use Rattle.std.proofs.Common.{◌≡◌, ◌≢◌, ℕ, zero, suc, ◌+◌, ◌*◌, ◌/◌, ◌%◌, ◌<◌, ◌≤◌, ℤ, Bool, true, false, cond, not, ◌&&◌, ◌==◌, nat_lt, List, [], ◌∷◌, fold, length, map, Option, None, Some, is_none, is_some, unwrap_or, sum_by, refl, sym, ap, ◌∙◌, subst, arith}
 use mathlib.Core.Logic.{inl, inr}
 use Rattle.std.specs.Prelude.{Result, Ok, Err, option_map, slice_get}
 use Rattle.std.specs.List.{list_all, range_with_len}
 use Rattle.std.specs.Option.{option_or}
+use Rattle.std.proofs.Math.Nat.{mul-le-mul_right}
 use Rattle.std.proofs.lemmas.Bool.Decides.{nat_tests}
 use Rattle.std.proofs.lemmas.List.Sums.{sum_by-cons}
 use Rattle.std.proofs.lemmas.Option.{slice_get_past}
@@ -29,11 +30,12 @@ use Rattle.event_spec.specs.Effects.{CoreEvent, after_change, after_insert, afte
 use Rattle.event_spec.specs.Judged.{differences, fault_of, first_of_blocks, newer_by, next_place}
 use Rattle.event_spec.specs.Lawful.{Among, HasBlock, HasTable, IsLawful, IsThawed}
 use Rattle.event_spec.specs.Parts.{Changes, Parts, Shape, below, blocks_of, body_at, desk_at, head_at, is_head, names, nothing, places_at, slot_at, slots_of}
-use Rattle.event_spec.specs.Replay.{opening, rows_first}
+use Rattle.event_spec.specs.Replay.{columns_in, opening, opening_head, rows_first}
 use Rattle.event_spec.specs.Replies.{reply_to, reply_to_write}
 use Rattle.event_spec.specs.Sound.{IsShape, Sound}
 use Rattle.isolation_spec.specs.Contents.{key_of}
-use Rattle.core_laws.proofs.Logs.Opening.{body, head, no_rows}
+use Rattle.core_laws.proofs.Logs.FirstPlaces.{body_empty, body_filled, quotient_less, row_number}
+use Rattle.core_laws.proofs.Logs.Opening.{body, head}
 use Rattle.core_laws.proofs.Slots.Kept.{writer_filled}
 use Rattle.core_laws.proofs.Sound.Bodies.{not_empty, row_fills, true_false}
 use Rattle.core_laws.proofs.Sound.Keeps.{shaped}
@@ -597,31 +599,90 @@ room_is_counted sh s made t shape ok lawful has = go made.refused
     go true = record { room = omega arith; inserts = omega arith }
     go false = let grows = event_grows sh s shape ok t has made.event lawful in record { room = grows.0; inserts = grows.1 }
 
--- Slots that are all the bare one are all bare.
-all_bare : (n : ℕ) → list_all is_bare (replicate n bare) ≡ true
-all_bare zero = refl
-all_bare (suc n) = all_bare n
+-- The slots in use of blocks that are full before one, empty behind it, and have so many in it.
+sum_filled : (f : ℕ → ℕ) (slots last a d n : ℕ) → d < n → ((b : ℕ) → a ≤ b → b < a + d → f b ≡ slots) → f (a + d) ≡ last
+    → ((b : ℕ) → a + d < b → b < a + n → f b ≡ 0) → sum_by f (range_with_len a n) ≡ d * slots + last
+sum_filled f slots last a d zero less full here none = absurd (omega (arith, less))
+sum_filled f slots last a zero (suc n) less full here none =
+    let e : a + 0 ≡ a = omega arith in
+    let first : f a ≡ last = sym (ap f e) ∙ here in
+    let rest = sum_zero f (a + 1) n (λ b low high. none b (omega (arith, low)) (omega (arith, high))) in
+    let k = sum_by-cons f a (range_with_len (a + 1) n) in
+    omega (arith, first, rest, k)
+sum_filled f slots last a (suc d) (suc n) less full here none =
+    let e : a + suc d ≡ a + 1 + d = omega arith in
+    let first = full a (omega arith) (omega arith) in
+    let rest = sum_filled f slots last (a + 1) d n (omega (arith, less)) (λ b low high. full b (omega (arith, low)) (omega (arith, high))) (sym (ap f e) ∙ here)
+    (λ b low high. none b (omega (arith, low)) (omega (arith, high))) in
+    let k = sum_by-cons f a (range_with_len (a + 1) n) in
+    let m : suc d * slots ≡ slots + d * slots = grind arith in
+    omega (arith, first, rest, k, m)
 
--- in the opening core the slots of its rows are in use, of which there are none
+-- in the opening core the slots of its rows are in use, and its head counts them
 pub opens_with_rows : OpensWithRows
-opens_with_rows sh t shape has = (
-  sum_zero (used_in sh (opening sh) t) 0 (blocks_of sh t) each ∙ none,
-  ap (λ (h : Head). h.inserts) (head sh shape t has) ∙ none,
-)
+opens_with_rows sh t shape has = go (length (rows_first sh t)) refl
   where
-    none : 0 ≡ length (rows_first sh t)
-    none = sym (ap (λ (rows : List Row). length rows) (no_rows sh shape.none t))
+    head_is : (n : ℕ) → length (rows_first sh t) ≡ n → head_at sh (opening sh) t ≡ opening_head (blocks_of sh t) (slots_of sh t) n
+    head_is n is = head sh shape t has ∙ ap (opening_head (blocks_of sh t) (slots_of sh t)) is
+
+    -- What a block has in use, by its head and whether it is empty.
+    uses : (h : Head) (b : ℕ) (own empty : Bool) → head_at sh (opening sh) t ≡ h → (b == h.block) ≡ own → is_empty (body_at sh (opening sh) t b) ≡ empty
+        → used_in sh (opening sh) t b ≡ cond own h.taken (cond empty 0 (slots_of sh t))
+    uses h b own empty is mine bare =
+        ap (λ (h : Head). cond (b == h.block) h.taken (cond (is_empty (body_at sh (opening sh) t b)) 0 (slots_of sh t))) is
+        ∙ ap (λ (own : Bool). cond own h.taken (cond (is_empty (body_at sh (opening sh) t b)) 0 (slots_of sh t))) mine
+        ∙ ap (λ (e : Bool). cond own h.taken (cond e 0 (slots_of sh t))) bare
+
+    empty : (b : ℕ) → b < blocks_of sh t → length (rows_first sh t) ≤ b * slots_of sh t → is_empty (body_at sh (opening sh) t b) ≡ true
+    empty b less behind = ap is_empty (body sh shape t b (has, less)) ∙ body_empty (columns_in sh t) (slots_of sh t) (rows_first sh t) b behind
+
+    filled : (b : ℕ) → b < blocks_of sh t → b * slots_of sh t < length (rows_first sh t) → is_empty (body_at sh (opening sh) t b) ≡ false
+    filled b less before = ap is_empty (body sh shape t b (has, less)) ∙ body_filled (columns_in sh t) (slots_of sh t) (rows_first sh t) b (shape.slots t has).0 before
 
     either : (b : Bool) → cond {A = ℕ} b 0 0 ≡ 0
     either true = refl
     either false = refl
 
-    each : (b : ℕ) → 0 ≤ b → b < 0 + blocks_of sh t → used_in sh (opening sh) t b ≡ 0
-    each b low high =
-        ap (λ (h : Head). cond (b == h.block) h.taken (cond (is_empty (body_at sh (opening sh) t b)) 0 (slots_of sh t))) (head sh shape t has)
-        ∙ ap (λ x. cond (b == 0) 0 (cond (is_empty x) 0 (slots_of sh t))) (body sh shape t b (has, omega (arith, high)))
-        ∙ ap (λ e. cond (b == 0) 0 (cond e 0 (slots_of sh t))) (all_bare (slots_of sh t))
-        ∙ either (b == 0)
+    go : (n : ℕ) → length (rows_first sh t) ≡ n
+        → (used sh (opening sh) t ≡ length (rows_first sh t)) × ((head_at sh (opening sh) t).inserts ≡ length (rows_first sh t))
+    go zero is = (
+      sum_zero (used_in sh (opening sh) t) 0 (blocks_of sh t)
+          (λ b low high. uses (opening_head (blocks_of sh t) (slots_of sh t) 0) b (b == 0) true (head_is 0 is) refl (empty b (omega (arith, high)) (omega (arith, is))) ∙ either (b == 0))
+          ∙ sym is,
+      ap (λ (h : Head). h.inserts) (head_is 0 is) ∙ sym is,
+    )
+    go (suc before) is = (
+      sum_filled (used_in sh (opening sh) t) (slots_of sh t) (before % slots_of sh t + 1) 0 (before / slots_of sh t) (blocks_of sh t) within full here behind
+          ∙ (let whole = row_number (slots_of sh t) before in omega (arith, is, whole)),
+      ap (λ (h : Head). h.inserts) (head_is (suc before) is) ∙ sym is,
+    )
+      where
+        within : before / slots_of sh t < blocks_of sh t
+        within = quotient_less before (slots_of sh t) (blocks_of sh t) (shape.slots t has).0 (let room = shape.room t has in omega (arith, is, room))
+
+        whole : before / slots_of sh t * slots_of sh t + before % slots_of sh t ≡ before
+        whole = row_number (slots_of sh t) before
+
+        full : (b : ℕ) → 0 ≤ b → b < 0 + before / slots_of sh t → used_in sh (opening sh) t b ≡ slots_of sh t
+        full b low high =
+            let times : b * slots_of sh t ≤ before / slots_of sh t * slots_of sh t = mul-le-mul_right (slots_of sh t) (omega (arith, high)) in
+            let sum = whole in
+            uses (opening_head (blocks_of sh t) (slots_of sh t) (suc before)) b false false (head_is (suc before) is) (num_not b (before / slots_of sh t) (λ e. absurd (omega (arith, e, high))))
+            (filled b (let most = within in omega (arith, high, most)) (omega (arith, times, sum, is)))
+
+        here : used_in sh (opening sh) t (0 + before / slots_of sh t) ≡ before % slots_of sh t + 1
+        here =
+            let e : 0 + before / slots_of sh t ≡ before / slots_of sh t = omega arith in
+            ap (used_in sh (opening sh) t) e
+            ∙ uses (opening_head (blocks_of sh t) (slots_of sh t) (suc before)) (before / slots_of sh t) true (is_empty (body_at sh (opening sh) t (before / slots_of sh t))) (head_is (suc before) is) (num_refl (before / slots_of sh t)) refl
+
+        behind : (b : ℕ) → 0 + before / slots_of sh t < b → b < 0 + blocks_of sh t → used_in sh (opening sh) t b ≡ 0
+        behind b low high =
+            let times : (before / slots_of sh t + 1) * slots_of sh t ≤ b * slots_of sh t = mul-le-mul_right (slots_of sh t) (omega (arith, low)) in
+            let sum = whole in
+            let rest : before % slots_of sh t < slots_of sh t = let one = (shape.slots t has).0 in omega (arith, one) in
+            uses (opening_head (blocks_of sh t) (slots_of sh t) (suc before)) b false true (head_is (suc before) is) (num_not b (before / slots_of sh t) (λ e. absurd (omega (arith, e, low))))
+            (empty b (omega (arith, high)) (omega (arith, times, sum, rest, is)))
 
 -- without room for an insert all slots are in use
 pub full_is_full : FullIsFull

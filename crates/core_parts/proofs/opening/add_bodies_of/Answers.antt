@@ -1,7 +1,7 @@
 use Rattle.std.proofs.Common.{◌++◌, ◌∷◌, [], Some, List, sym, ap, ◌∙◌}
 use Rattle.block_spec.specs.Bodies.{Body, untouched}
 use Rattle.cell_model.specs.declared.column.Column.{Column}
-use Rattle.core_laws.proofs.Logs.Opening.{plain_body}
+use Rattle.core_parts.proofs.Plain.{plain_body}
 use Rattle.core_parts.proofs.Places.{grown, placed_more}
 use Rattle.core_parts.specs.Placed.{placed}
 use Rattle.core_parts.specs.Hands.{Held}

@@ -1,5 +1,5 @@
 use Rattle.std.proofs.Common.{◌≡◌, ◌++◌, ◌∙◌, [], ◌∷◌, Some, sym, ap}
-use Rattle.core_laws.proofs.Logs.Opening.{plain_desk}
+use Rattle.core_parts.proofs.Plain.{plain_desk}
 use Rattle.event_spec.specs.declared.part.Part.TheVariants as part
 use Rattle.event_spec.specs.Replay.{opening_desk}
 use Rattle.txn_desk.specs.Desk.{DeskState}

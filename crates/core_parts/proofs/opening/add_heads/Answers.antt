@@ -4,7 +4,7 @@ use Rattle.core_parts.specs.Placed.{placed}
 use Rattle.core_parts.specs.Hands.{Held}
 use Rattle.event_spec.specs.declared.part.Head.{Head}
 use Rattle.event_spec.specs.declared.part.Part.TheVariants as part
-use Rattle.core_laws.proofs.Logs.Opening.{plain_head}
+use Rattle.core_parts.proofs.Plain.{plain_head}
 use Rattle.event_spec.specs.Parts.{HeadOf, below, slots_of}
 use Rattle.event_spec.specs.Replay.{opening_head}
 use Rattle.std.specs.Prelude.{map}

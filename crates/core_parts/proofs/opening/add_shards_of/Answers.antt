@@ -1,5 +1,5 @@
 use Rattle.std.proofs.Common.{◌++◌, ◌∷◌, [], Some, sym, ap, ◌∙◌}
-use Rattle.core_laws.proofs.Logs.Opening.{plain_shard}
+use Rattle.core_parts.proofs.Plain.{plain_shard}
 use Rattle.core_parts.proofs.Places.{grown, placed_more}
 use Rattle.core_parts.specs.Placed.{placed}
 use Rattle.core_parts.specs.Hands.{Held}

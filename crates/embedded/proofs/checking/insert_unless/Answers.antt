@@ -25,6 +25,17 @@ returns-in_default g c =
       unmoved = λ same. cc;
     }
 
+pub loop-init : goal.loop-init
+loop-init g c =
+    let st = c.args.store.now in
+    record {
+      session = c.requires.session;
+      rests = c.requires.rests;
+      seen = no_more (commits_seen st c.args.session.now);
+      unwritten = no_call st c.args.session.now;
+      made = omega (arith);
+    }
+
 pub loop-preserved : goal.loop-preserved
 loop-preserved g c =
     let st = c.args.store.now in
