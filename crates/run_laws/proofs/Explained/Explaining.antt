@@ -30,7 +30,6 @@ use Rattle.outcome_spec.specs.Forms.{Due, dues_of, is_seal_or_gather, is_silent,
 use Rattle.timeline_laws.proofs.Scripts.{run-explained}
 use Rattle.timeline_laws.proofs.Tests.{and-false}
 use Rattle.timeline_spec.specs.Forms.{AllMayStand, MayAnswer, MayStand}
-use Rattle.timeline_spec.specs.Printed.{printed_of}
 use Rattle.workload_spec.specs.declared.command.Command.{Command}
 use Rattle.workload_spec.specs.declared.command.Command.TheVariants as command
 use Rattle.workload_spec.specs.declared.reply.Said.{Said}

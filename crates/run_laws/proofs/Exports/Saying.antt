@@ -1,5 +1,5 @@
 -- What an export sent is what its line says, by the machine at the moment of its last event.
-use Rattle.std.proofs.Common.{◌≡◌, ◌⊎◌, ℕ, ◌+◌, ◌<◌, ◌≤◌, ◌^◌, ℤ, true, false, not, ◌||◌, List, [], ◌∷◌, ◌++◌, length, map, Option, None, Some, option_map, is_some, refl, sym, ap, ◌∙◌, subst, arith, append-nil}
+use Rattle.std.proofs.Common.{◌≡◌, ◌⊎◌, ℕ, ◌<◌, ◌≤◌, ◌^◌, ℤ, true, false, not, ◌||◌, List, [], ◌∷◌, ◌++◌, length, map, Option, None, Some, option_map, is_some, refl, sym, ap, ◌∙◌, subst, arith, append-nil}
 use mathlib.Core.Logic.{inl, inr}
 use Rattle.std.specs.Prelude.{All, IfSome, slice_get}
 use Rattle.std.specs.List.{list_all, list_any}
