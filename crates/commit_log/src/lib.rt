@@ -8,3 +8,4 @@ pub use disk_ports::Disk;
 pub use log::{Log, Opened};
 pub use log_records::fits;
 pub use payload_log::LogFault;
+pub use reading::{LogEnd, LogReading, read_log};
