@@ -1,6 +1,7 @@
 //! A log of commits on a disk that may crash at any moment: how it is made, opened and added to.
 #![tactic(auto)]
 
+pub mod laws;
 mod log;
 mod reading;
 

@@ -1,7 +1,6 @@
 -- Texts of worked logs.
 use Rattle.std.specs.Prelude.{◌≡◌, ℕ, true, false, List, [], ◌∷◌, ◌++◌, pos, negsuc, codes}
 use Rattle.std.specs.Prelude.{None, Some}
-use Rattle.cell_model.specs.declared.cell.Cell.{Cell}
 use Rattle.cell_model.specs.declared.cell.Cell.TheVariants.{Null, Num, Truth, Text, Blob}
 use Rattle.cell_model.specs.declared.column.Column.{Column}
 use Rattle.cell_model.specs.declared.kind.Kind.{Kind}
@@ -30,8 +29,11 @@ tables =
 -- no row in the place of the second, nor in that of the third
 abbrev pub commits : History
 commits =
-    ((place_at 0 (negsuc 0), Some (Num (negsuc 0) ∷ Text (codes "a \"b\"") ∷ Truth true
-    ∷ Blob (255 ∷ 0 ∷ []) ∷ []))
+    ((
+      place_at 0 (negsuc 0),
+      Some (Num (negsuc 0) ∷ Text (codes "a \"b\"") ∷ Truth true
+          ∷ Blob (255 ∷ 0 ∷ []) ∷ []),
+    )
     ∷ (place_at 0 (pos 2), Some (Num (pos 2) ∷ Null ∷ Truth false ∷ Null ∷ []))
     ∷ (place_at 1 (pos 7), Some (Num (pos 7) ∷ [])) ∷ [])
     ∷ ((place_at 0 (negsuc 0), Some (Num (negsuc 0) ∷ Null ∷ Null ∷ Null ∷ [])) ∷ [])
