@@ -73,7 +73,7 @@ pub(crate) fn opened<D: Disk>(
 ) -> Result<Result<usize, LogFault>, Fail> {
     let tables = tables(alloc)?;
     match Log::open(alloc, disk, &tables) {
-        Ok(opened) => Ok(Ok(opened.commits.len())),
+        Ok(opened) => Ok(Ok(opened.commits.as_slice().len())),
         Err(fault) => Ok(Err(fault)),
     }
 }
