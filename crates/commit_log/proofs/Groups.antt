@@ -13,7 +13,8 @@ use Rattle.isolation_spec.specs.Contents.{History}
 use Rattle.log_spec.specs.LogText.{Record, front_text, magic, payload_text, record_text, sized}
 use Rattle.log_spec.specs.Reading.{IsGroupOf, IsLogOf, IsNoLog, LeavesForm}
 use Rattle.log_spec.proofs.Fronts.{sized_front, tail_is}
-use Rattle.commit_log.specs.Readings.{HasGroup, IsClosed, SoFar}
+use Rattle.commit_log.specs.Readings.{HasGroup, IsClosed, ReadsAs, SoFar}
+use Rattle.commit_log.specs.declared.reading.LogEnd.TheVariants.{Broken}
 use Rattle.commit_log.proofs.Appends.{commits_fit}
 use Rattle.payload_log.proofs.Records.{open_push, front_push}
 
@@ -93,6 +94,11 @@ module _ (tables : List TableDecl) (bytes rest : List ℕ) (commits : History)
           ∙ take_at (front_text so_far.records) rest (length bytes - length rest) place_of);
     };
   }
+
+  -- so the bytes read where no record stands
+  pub breaks : LeavesForm tables rest
+      → ReadsAs tables bytes commits (Broken (length bytes - length rest))
+  breaks form = (leaves form, inr before)
 
   -- the commits so far are those of the tables
   pub fit : AreCommitsOf tables commits

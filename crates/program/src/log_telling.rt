@@ -1,6 +1,6 @@
 //! Tells what a log holds: `mainline log PATH` reads a workload, and prints the commits that the log at
 //! the path has of its tables.
-ghost use Rattle.std.specs.Prelude.{◌≡◌, ◌≢◌, ℕ, List, Option, OnOk, IfOk, option_map, true};
+ghost use Rattle.std.specs.Prelude.{◌≡◌, ◌≢◌, ℕ, List, Option, OnOk, IfOk, true};
 ghost use Rattle.std.specs.Option.{ForSome};
 ghost use Rattle.commit_log.specs.Faults.{CountsDisk};
 ghost use Rattle.commit_log.specs.Readings.{OnlyReads, ReadsAs};
@@ -75,7 +75,9 @@ fn print_log<O: Sink, D: Disk>(
     let reading = match read_at(alloc, tables, path, disk) {
         Ok(reading) => reading,
         Err(LogFault::Disk) => return Status::LogFault,
-        Err(_) => return Status::Memory,
+        Err(LogFault::NotALog { .. } | LogFault::Failed | LogFault::Memory) => {
+            return Status::Memory;
+        }
     };
     let mut text = Vec::new(alloc);
     let broken = broken_at(reading.end);
@@ -93,7 +95,7 @@ fn print_log<O: Sink, D: Disk>(
 
 /// The place where the bytes leave the form of a log, if they do.
 fn broken_at(end: LogEnd) -> Option<u64>
-    ensures { option_map (λ place. place) result ≡ broken_at end }
+    ensures { result ≡ broken_at end }
 {
     match end {
         LogEnd::Closed { .. } => None,
