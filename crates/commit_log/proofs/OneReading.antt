@@ -60,7 +60,7 @@ pub one_reading : OneReading
 one_reading tables bytes commits others (Closed gate) (Closed next) schemas a b = (
   one_history tables bytes commits others schemas (gate, a) (next, b),
   ap (λ g. Closed g) (one_log (map payload_text a.groups) (map payload_text b.groups) gate next bytes
-  a.log b.log).1,
+      a.log b.log).1,
 )
 one_reading tables bytes commits others (Closed gate) (Broken place) schemas a b =
     absurd (never_both tables bytes commits place (gate, a) b.0)

@@ -158,11 +158,7 @@ fn next_group(
 }
 
 /// What the bytes read as.
-fn commits_in(
-    alloc: Global,
-    tables: &[TableDecl],
-    bytes: &[u8],
-) -> Result<LogReading, AllocError>
+fn commits_in(alloc: Global, tables: &[TableDecl], bytes: &[u8]) -> Result<LogReading, AllocError>
     ensures fit { IfOk result (λ reading. AreCommitsOf tables.now reading.commits) }
     ensures ok { IfOk result
         (λ reading. ReadsAs tables.now bytes.now reading.commits reading.end) }

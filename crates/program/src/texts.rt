@@ -7,7 +7,8 @@ use crate::status::Status;
 use byte_ports::{Failed, Sink, write_all};
 
 /// How the program is used.
-const USAGE: &[u8] = b"usage: mainline run [--export PATH] | show | check | bench SEED SIZE | log PATH\n";
+const USAGE: &[u8] =
+    b"usage: mainline run [--export PATH] | show | check | bench SEED SIZE | log PATH\n";
 
 /// What the program does, each command with a line.
 const HELP: &[u8] =
