@@ -1,18 +1,21 @@
 -- How the records of a log are read one after the other.
 use Rattle.std.proofs.Common.{◌≡◌, ◌≢◌, inr, ℕ, ◌-◌, ◌^◌, ◌<◌, ◌≤◌, List, [], ◌∷◌, ◌++◌, length}
-use Rattle.std.proofs.Common.{take, drop, refl, sym, ◌∙◌, ap, subst, arith, append_assoc}
+use Rattle.std.proofs.Common.{All, take, drop, refl, sym, ◌∙◌, ap, subst, arith, append_assoc}
 use Rattle.std.proofs.Common.{length-append, take-append-drop}
-use Rattle.std.proofs.lemmas.List.{append-nil, map-append}
+use Rattle.std.proofs.lemmas.List.{append-nil, map-append, take_at}
 use Rattle.std.proofs.lemmas.List.Elements.{All-nil, All-push}
 use Rattle.std.proofs.lemmas.Grind.{flat_map-append}
 use Rattle.std.specs.List.{flat_map}
 use Rattle.std.specs.Prelude.{MatchOption, Option, Some}
 use Rattle.cell_model.specs.declared.table.TableDecl.{TableDecl}
+use Rattle.isolation_spec.specs.Commits.{AreCommitsOf, IsCommitOf}
 use Rattle.isolation_spec.specs.Contents.{History}
 use Rattle.log_spec.specs.LogText.{Record, front_text, magic, payload_text, record_text, sized}
 use Rattle.log_spec.specs.Reading.{IsGroupOf, IsLogOf, IsNoLog, LeavesForm}
 use Rattle.log_spec.proofs.Fronts.{sized_front, tail_is}
-use Rattle.commit_log.specs.Readings.{HasGroup, IsClosed, SoFar}
+use Rattle.commit_log.specs.Readings.{HasGroup, IsClosed, ReadsAs, SoFar}
+use Rattle.commit_log.specs.declared.reading.LogEnd.TheVariants.{Broken}
+use Rattle.commit_log.proofs.Appends.{commits_fit}
 use Rattle.payload_log.proofs.Records.{open_push, front_push}
 
 -- what holds of an answer that is some
@@ -72,6 +75,35 @@ module _ (tables : List TableDecl) (bytes rest : List ℕ) (commits : History)
     is = so_far.is;
     leaves = form;
   })
+
+  -- and what stands in front of the place is the log of the commits so far
+  pub before : IsLogOf tables commits (length bytes - length rest)
+      (take (length bytes - length rest) bytes ++ 0 ∷ [])
+  before = record {
+    groups = so_far.groups;
+    are = so_far.are;
+    same = so_far.flat;
+    log = record {
+      records = so_far.records;
+      behind = [];
+      same = so_far.same;
+      are_open = so_far.are_open;
+      place = place_of;
+      is = ap (λ (l : List ℕ). l ++ 0 ∷ [])
+          (ap (take (length bytes - length rest)) so_far.is
+          ∙ take_at (front_text so_far.records) rest (length bytes - length rest) place_of);
+    };
+  }
+
+  -- so the bytes read where no record stands
+  pub breaks : LeavesForm tables rest
+      → ReadsAs tables bytes commits (Broken (length bytes - length rest))
+  breaks form = (leaves form, inr before)
+
+  -- the commits so far are those of the tables
+  pub fit : AreCommitsOf tables commits
+  fit = subst (All (IsCommitOf tables)) so_far.flat
+      (commits_fit tables so_far.groups so_far.are)
 
   -- one record more
   pub one_more : (behind : List ℕ) (group : History) → HasGroup tables rest behind group

@@ -1,4 +1,5 @@
 mod Appends
 mod FileFronts
 mod Groups
+mod OneReading
 pub mod Watching

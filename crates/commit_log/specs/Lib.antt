@@ -1,2 +1,4 @@
 pub mod Commits
+pub mod Faults
+pub mod Laws
 pub mod Readings

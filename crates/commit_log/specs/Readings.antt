@@ -1,13 +1,29 @@
 -- How the bytes of a log are read.
-use Rattle.std.specs.Prelude.{◌≡◌, ◌≢◌, ℕ, List, ◌∷◌, ◌++◌, Option, Err, Result, map, All}
+use Rattle.std.specs.Prelude.{◌≡◌, ◌≢◌, ◌⊎◌, ℕ, List, [], ◌∷◌, ◌++◌, Option, map, take}
+use Rattle.std.specs.Prelude.{All}
 use Rattle.std.specs.List.{AllByRecursion, flat_map}
 use Rattle.cell_model.specs.declared.table.TableDecl.{TableDecl}
 use Rattle.disk_ports.specs.Crashes.{LeavesOnly, NoMore}
 use Rattle.isolation_spec.specs.Contents.{History}
-use Rattle.log_spec.specs.Reading.{IsGroupOf}
-use Rattle.log_spec.specs.LogText.{IsOpen, Record, front_text, payload_text, sized}
-use Rattle.payload_log.specs.declared.fault.LogFault.{LogFault}
-use Rattle.payload_log.specs.declared.fault.LogFault.TheVariants.{Disk, Failed}
+use Rattle.log_spec.specs.Reading.{IsGroupOf, IsLogOf, IsNoLog}
+use Rattle.log_spec.specs.LogText.{IsOpen, Record, front_text, magic, payload_text, sized}
+use Rattle.commit_log.specs.declared.reading.LogEnd.{LogEnd}
+use Rattle.commit_log.specs.declared.reading.LogEnd.TheVariants.{Broken, Closed}
+
+-- The commits in front of a place where bytes leave the form of a log, those of the whole records
+-- there: what stands in front of the place, with a closed gate behind it, is their log. Bytes that
+-- do not begin as a log have none.
+abbrev pub GivesBefore : List TableDecl → List ℕ → ℕ → History → Type 0
+GivesBefore tables bytes place commits =
+    ((take 8 bytes ≢ magic) × (commits ≡ []))
+    ⊎ IsLogOf tables commits place (take place bytes ++ 0 ∷ [])
+
+-- What bytes read as, as a log of these tables: its commits, up to its closed gate; or, where they
+-- are no log, the place at which they leave the form, and the commits in front of it.
+abbrev pub ReadsAs : List TableDecl → List ℕ → History → LogEnd → Type 0
+ReadsAs tables bytes commits (Closed gate) = IsLogOf tables commits gate bytes
+ReadsAs tables bytes commits (Broken place) =
+    IsNoLog tables bytes place × GivesBefore tables bytes place commits
 
 -- Calls that only read or sync: the file is told as before, and a crash at any moment of theirs
 -- leaves nothing that it might not have left before.
@@ -18,11 +34,6 @@ pub record OnlyReads
   pub same : told new ≡ told old
   pub no_more : NoMore (may_leave old) (may_leave new)
   pub any_moment : LeavesOnly moment left_since old new (may_leave old)
-
--- An answer that was found in bytes alone: no call of a disk failed, now or before.
-pub record IsOfBytes {T : Type 0} (answer : Result T LogFault) : Type 0 where
-  pub no_disk : answer ≢ Err Disk
-  pub no_failed : answer ≢ Err Failed
 
 -- the bytes begin with a closed gate
 abbrev pub IsClosed : List ℕ → Type 0

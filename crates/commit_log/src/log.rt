@@ -11,9 +11,9 @@ ghost use Rattle.log_spec.specs.Reading.{IsGroupOf, IsNoLog};
 ghost use Rattle.payload_log.specs.Faults.{CountsDisk};
 
 use crate::LogFault;
-use crate::reading::{commits_in, read_file};
+use crate::reading::{LogEnd, read_log};
 use cell_model::TableDecl;
-use disk_ports::{Disk, Failed};
+use disk_ports::Disk;
 use log_records::payload_of;
 use log_spec::{History, WriteSet};
 use payload_log::PayloadLog;
@@ -74,25 +74,22 @@ impl Log {
         ensures cause { CountsDisk (D.faults disk.old) (D.faults disk.new) result }
         ensures fresh { result ≢ Err LogFault.Failed }
     {
-        let bytes = match read_file(alloc, disk) {
-            Ok(bytes) => bytes,
+        let reading = match read_log(alloc, disk, tables) {
+            Ok(reading) => reading,
             Err(fault) => return Err(fault),
         };
-        let found = match commits_in(alloc, tables, &bytes) {
-            Ok(found) => found,
-            Err(fault) => return Err(fault),
-        };
-        if let Err(Failed) = disk.sync() {
-            return Err(LogFault::Disk);
+        match reading.end {
+            LogEnd::Closed { gate } => Ok(Opened {
+                log: Log {
+                    payloads: PayloadLog {
+                        gate,
+                        failed: false,
+                    },
+                },
+                commits: reading.commits,
+            }),
+            LogEnd::Broken { place } => Err(LogFault::NotALog { place }),
         }
-        let payloads = PayloadLog {
-            gate: found.gate,
-            failed: false,
-        };
-        Ok(Opened {
-            log: Log { payloads },
-            commits: History::from(found.commits),
-        })
     }
 
     /// Adds the commits, as one record. A crash at any moment leaves the log without them or with

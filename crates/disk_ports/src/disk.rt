@@ -29,8 +29,21 @@ pub trait Disk {
     // How many calls have failed so far, where a counter holds at its last value.
     ghost faults: { Self → ℕ };
 
-    /// Starts the disk at `name`: the other calls are of the file there.
+    /// Starts the disk at `name`: the other calls are of the file there, which is made where there is
+    /// none.
     fn start(&mut self, name: &str) -> Result<(), Failed>
+        ensures adds { StartAdds (started self.old) (started self.new) result name.now }
+        ensures told { told self.new ≡ told self.old }
+        ensures crash { NoMore (may_leave self.old) (may_leave self.new) }
+        ensures time { Elapses (moment self.old) (moment self.new) (left_since self.old)
+            (left_since self.new) (may_leave self.new) }
+        ensures counted { faults self.old ≤ faults self.new }
+        ensures kept { OnOk result (faults self.new ≡ faults self.old) }
+        ensures cause { OnErr result (Rose (faults self.old) (faults self.new)) };
+
+    /// Starts the disk at `name` to be read: where no file is there the call fails, and makes none.
+    /// A write may fail from then on.
+    fn start_reading(&mut self, name: &str) -> Result<(), Failed>
         ensures adds { StartAdds (started self.old) (started self.new) result name.now }
         ensures told { told self.new ≡ told self.old }
         ensures crash { NoMore (may_leave self.old) (may_leave self.new) }

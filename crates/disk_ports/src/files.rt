@@ -35,6 +35,12 @@ pub trait MountFiles {
     fn open(&self, name: &str) -> io::Result<Self::File>
         ensures at_path { IfOk result (λ file. IsAt (path file) name.now) }
         ensures apart { IfOk result (λ file. IsApart (number file)) };
+
+    /// Opens the file at the path `name` to be read, and makes none. It has the number of no
+    /// standard stream.
+    fn open_reading(&self, name: &str) -> io::Result<Self::File>
+        ensures at_path { IfOk result (λ file. IsAt (path file) name.now) }
+        ensures apart { IfOk result (λ file. IsApart (number file)) };
 }
 
 /// Opens files of the system, each with the system's lock on it. Their paths are not told, since
@@ -65,27 +71,47 @@ impl<F: Files<File = File>> MountFiles for SystemMounts<F> {
     fn open(&self, name: &str) -> io::Result<File>
         ensures apart { IfOk result (λ file. IsApart (⟦<File as AsRawFd>⟧.raw_fd file)) }
     {
-        let file = open_apart(&self.rt, name)?;
+        let file = open_apart(&self.rt, name, Opening::ToKeep)?;
         file.try_lock()?;
         file.sync_all()?;
         sync_folder(&self.rt, name)?;
         Ok(file)
     }
+
+    /// Opens a file to be read, and fails where there is none, or where another open of it holds
+    /// the lock but to read it.
+    fn open_reading(&self, name: &str) -> io::Result<File>
+        ensures apart { IfOk result (λ file. IsApart (⟦<File as AsRawFd>⟧.raw_fd file)) }
+    {
+        let file = open_apart(&self.rt, name, Opening::ToRead)?;
+        file.try_lock_shared()?;
+        Ok(file)
+    }
 }
 
-/// Opens the file at a path, or makes it. The system gives a file the least number that is free,
-/// which is that of a standard stream where one is closed, so three files are held open until this
-/// one has its number. Where it has that of a standard stream all the same, the call fails.
-fn open_apart<F: Files<File = File>>(rt: &F, name: &str) -> io::Result<File>
+/// What a file is opened for.
+#[derive(Clone, Copy)]
+enum Opening {
+    /// To be read and written, and made where there is none.
+    ToKeep,
+    /// To be read alone.
+    ToRead,
+}
+
+/// Opens the file at a path. The system gives a file the least number that is free, which is that of
+/// a standard stream where one is closed, so three files are held open until this one has its
+/// number. Where it has that of a standard stream all the same, the call fails.
+fn open_apart<F: Files<File = File>>(rt: &F, name: &str, opening: Opening) -> io::Result<File>
     ensures apart { IfOk result (λ file. IsApart (⟦<File as AsRawFd>⟧.raw_fd file)) }
 {
     let _first = File::open(rt, "/")?;
     let _second = File::open(rt, "/")?;
     let _third = File::open(rt, "/")?;
+    let is_kept = matches!(opening, Opening::ToKeep);
     let file = OpenOptions::new()
         .read(true)
-        .write(true)
-        .create(true)
+        .write(is_kept)
+        .create(is_kept)
         .open(rt, name)?;
     if is_apart(file.as_raw_fd()) {
         Ok(file)
@@ -215,6 +241,29 @@ impl<M: MountFiles> Disk for FileDisk<M> {
             return Err(count_fault(&mut self.faults));
         }
         let Ok(file) = self.files.open(name) else {
+            return Err(count_fault(&mut self.faults));
+        };
+        self.file = Some(file);
+        Ok(())
+    }
+
+    /// Opens the file at the path `name` to be read, and makes none: a write to it fails. A start
+    /// that fails leaves the file that was open before. A disk that has stopped starts no more.
+    fn start_reading(&mut self, name: &str) -> Result<(), Failed>
+        ensures counted { self.old.faults ≤ self.new.faults }
+        ensures kept { OnOk result (self.new.faults ≡ self.old.faults) }
+        ensures cause { OnErr result (Rose self.old.faults self.new.faults) }
+
+        ensures running { OnOk result (IsRunning self.new) }
+        ensures on { OnOk result (self.old.stopped ≡ false) }
+        ensures at_path { OnOk result (IfSome self.new.file (λ file. IsAt (M.path file) name.now)) }
+        ensures apart { OnOk result (IfSome self.new.file (λ file. IsApart (M.number file))) }
+        ensures left { OnErr result (self.new ≡ after self.old true) }
+    {
+        if self.stopped {
+            return Err(count_fault(&mut self.faults));
+        }
+        let Ok(file) = self.files.open_reading(name) else {
             return Err(count_fault(&mut self.faults));
         };
         self.file = Some(file);

@@ -261,6 +261,24 @@ impl Disk for MemoryDisk {
         }
     }
 
+    /// Keeps the name, as `start` does: there is a file always.
+    fn start_reading(&mut self, name: &str) -> Result<(), Failed>
+        ensures adds { StartAdds (Some self.old.started) (Some self.new.started) result name.now }
+        ensures told { Some self.new.bytes ≡ Some self.old.bytes }
+        ensures crash { NoMore (may_hold self.old) (may_hold self.new) }
+        ensures time { Elapses (length self.old.past) (length self.new.past) (held_since self.old)
+            (held_since self.new) (may_hold self.new) }
+        ensures counted { self.old.plan.faults ≤ self.new.plan.faults }
+        ensures kept { OnOk result (self.new.plan.faults ≡ self.old.plan.faults) }
+        ensures cause { OnErr result (Rose self.old.plan.faults self.new.plan.faults) }
+
+        ensures fails { IsTrue (fails_next self.old.plan) → IsErr result }
+        ensures plan { self.new.plan ≡ after_call self.old.plan (is_err result) }
+        ensures past { self.new.past ≡ self.old.past }
+    {
+        self.start(name)
+    }
+
     /// Tells how many bytes there are. Besides a call in the list of failing calls, only one fails
     /// that finds no memory.
     fn size(&mut self) -> Result<u64, Failed>

@@ -1,8 +1,10 @@
 //! Runs workloads over the store: `mainline run [--export PATH]` reads one from standard input,
-//! prints the replies, and writes the export as an Arrow stream to the path.
+//! prints the replies, and writes the export as an Arrow stream to the path. `mainline log PATH`
+//! prints the commits of a log.
 #![tactic(auto)]
 
 use byte_ports::{FileOutlet, OpenGate, StdSink, StdSource, SystemFiles};
+use disk_ports::{FileDisk, SystemMounts};
 use program::{Status, perform};
 use std::alloc::AllocError;
 use std::env;
@@ -18,6 +20,7 @@ fn main(rt: HostRuntime) -> ExitCode {
     let mut source = StdSource::new(rt.stdin());
     let mut out = StdSink::new(rt.stdout());
     let mut export = FileOutlet::new(SystemFiles::new(rt));
+    let mut disk = FileDisk::new(SystemMounts::new(rt));
     let status = perform(
         &rt,
         alloc,
@@ -25,6 +28,7 @@ fn main(rt: HostRuntime) -> ExitCode {
         &mut source,
         &mut out,
         &mut export,
+        &mut disk,
         &OpenGate,
     );
     ExitCode::from(status)

@@ -11,7 +11,7 @@ use Rattle.clap.specs.declared.error.kind.ErrorKind.TheVariants as kind
 use Rattle.program.specs.declared.words.Work.{Work}
 use Rattle.program.specs.declared.words.WordsFault.{WordsFault}
 use Rattle.program.specs.declared.words.WordsFault.TheVariants as words_fault
-use Rattle.program.specs.Words.{Asked, ToRun, ToShow, ToCheck, asked_by, asked_of, bench_asks, command_asks, help_asks, mainline_app, meaning, stopped_asks, unless_stopped}
+use Rattle.program.specs.Words.{Asked, ToRun, ToShow, ToCheck, asked_by, asked_of, bench_asks, command_asks, help_asks, log_asks, mainline_app, meaning, stopped_asks, unless_stopped}
 use Rattle.program.proofs.Alike.{AreAlike, stops_alike}
 
 -- the command is one whose meaning `clap` tells
@@ -87,4 +87,5 @@ run_asked name rows value is same =
     else (if bytes_eq name (codes "show") then Some ToShow
     else (if bytes_eq name (codes "check") then Some ToCheck
     else (if bytes_eq name (codes "bench") then bench_asks rows
-    else (if bytes_eq name (codes "help") then help_asks rows else None))))) (sym is)
+    else (if bytes_eq name (codes "log") then log_asks rows
+    else (if bytes_eq name (codes "help") then help_asks rows else None)))))) (sym is)

@@ -6,5 +6,6 @@ pub mod Exports
 pub mod Scripts
 pub mod Played
 pub mod Judged
+pub mod LogTold
 pub mod Shown
 pub mod Unjudged

@@ -32,7 +32,7 @@ written_read bytes (Ok script) gives = read_written bytes script gives
 written_read bytes (Err bad) gives = tt
 
 -- a fault that is told is a bad line, the first of the bytes, which are refused
-told_fault : (Prints : Option (List ℕ) → Option (List ℕ) → List ℕ → Type 0) (bad : ScriptFault) (bytes : List ℕ) (left_old left_new printed_old printed_new exported : Option (List ℕ)) (started : Option (List (List ℕ)))
+pub told_fault : (Prints : Option (List ℕ) → Option (List ℕ) → List ℕ → Type 0) (bad : ScriptFault) (bytes : List ℕ) (left_old left_new printed_old printed_new exported : Option (List ℕ)) (started : Option (List (List ℕ)))
     → Consumes left_old left_new bytes → IsAtEnd left_new → length bytes < 2 ^ 32 → LineFails bad (script_of bytes) → TellsFault Prints bad printed_old printed_new
     → IsRefused Prints (outside left_old printed_old exported started) (outside left_new printed_new exported started)
 told_fault Prints (fault.Bad line cause) bytes left_old left_new printed_old printed_new exported started consumes ended short first printed = record {

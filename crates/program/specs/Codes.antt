@@ -14,3 +14,5 @@ status_code status.ExportFault = 5
 status_code status.Memory = 6
 status_code status.NotAStream = 7
 status_code status.TooLong = 8
+status_code status.LogFault = 9
+status_code status.NotALog = 10

@@ -4,5 +4,6 @@ pub mod Words
 pub mod Codes
 pub mod Flushed
 pub mod Outcome
+pub mod LogTold
 pub mod Played
 pub mod Pieces

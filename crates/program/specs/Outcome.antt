@@ -4,6 +4,7 @@ use Rattle.std.specs.Prelude.{[], ◌∷◌, ◌++◌, Option}
 use Rattle.std.specs.Prelude.{None, Some, option_map, codes, decimal, Ok, Err, IsSome}
 use Rattle.std.specs.Prelude.{if◌then◌else◌}
 use Rattle.std.specs.Io.KnownBytes.{Appends, Consumes, IsAtEnd}
+use Rattle.std.specs.Option.{ForSome}
 use Rattle.byte_ports.specs.Calls.{AppendsFront, ConsumesAtLeast, Rose}
 use Rattle.stream_spec.specs.Streams.{reading_of}
 use Rattle.stream_spec.specs.declared.fault.StreamFault.{StreamFault}
@@ -19,10 +20,18 @@ use Rattle.run_spec.specs.Occurrences.{Logged}
 use Rattle.run_spec.specs.Ran.{Ran, RoundRun}
 use Rattle.run_laws.specs.Rounds.Fronts.{with_rounds}
 use Rattle.store_rounds.specs.Workloads.{GoesCutOff, GoesStopped, GoesToExport, GoesWhole}
+use Rattle.isolation_spec.specs.Commits.{AreCommitsOf}
+use Rattle.isolation_spec.specs.Contents.{History}
+use Rattle.cell_model.specs.declared.table.TableDecl.{TableDecl}
+use Rattle.disk_ports.specs.Crashes.{LeavesJust}
+use Rattle.commit_log.specs.Readings.{ReadsAs}
+use Rattle.commit_log.specs.declared.reading.LogEnd.{LogEnd}
+use Rattle.commit_log.specs.declared.reading.LogEnd.TheVariants as log_end
+use Rattle.log_text.specs.Lines.{log_text}
 use Rattle.bench_spec.specs.Counted.{counts_text}
 use Rattle.bench_spec.specs.declared.counts.Counts.{Counts}
 use Rattle.program.specs.Bench.{RanGenerated}
-use Rattle.program.specs.Words.{Asked, ToRun, ToShow, ToCheck, ToBench, ToHelp, ToVersion}
+use Rattle.program.specs.Words.{Asked, ToRun, ToShow, ToCheck, ToBench, ToLog, ToHelp, ToVersion}
 use Rattle.program.specs.Words.{help_text, usage_line, version_line}
 use Rattle.program.specs.declared.status.Status.{Status}
 use Rattle.program.specs.declared.status.Status.TheVariants as status
@@ -178,6 +187,8 @@ ScriptEnds path script status.ExportFault before now = FailsExport path script b
 ScriptEnds path script status.Memory before now = IsStopped path script before now
 ScriptEnds path script status.NotAStream before now = ⊥
 ScriptEnds path script status.TooLong before now = ⊥
+ScriptEnds path script status.LogFault before now = ⊥
+ScriptEnds path script status.NotALog before now = ⊥
 
 -- The input is a workload, whose run ended so.
 abbrev pub IsRunOf : Option (List ℕ) → Status → Outside → Outside → Type 0
@@ -197,6 +208,8 @@ RunEnds path status.Memory before now = IsSilent before now ⊎ IsRunOf path sta
 RunEnds path status.NotAStream before now = ⊥
 RunEnds path status.TooLong before now = ConsumesAtLeast before.left now.left (2 ^ 32)
     × IsSilent before now
+RunEnds path status.LogFault before now = ⊥
+RunEnds path status.NotALog before now = ⊥
 
 -- ---- a stream that is shown
 
@@ -270,6 +283,8 @@ ShowEnds status.Memory before now = (shown lost : List ℕ) × IsShownSoFar show
 ShowEnds status.NotAStream before now = IsShown IsNoStream before now
 ShowEnds status.TooLong before now = (shown : List ℕ) × (2 ^ 32 ≤ length shown)
     × IsShownSoFar shown [] before now
+ShowEnds status.LogFault before now = ⊥
+ShowEnds status.NotALog before now = ⊥
 
 -- ---- an output that is checked
 
@@ -315,6 +330,8 @@ CheckEnds status.Memory before now = IsSilent before now
 CheckEnds status.NotAStream before now = ⊥
 CheckEnds status.TooLong before now =
     ConsumesAtLeast before.left now.left (2 ^ 32) × IsSilent before now
+CheckEnds status.LogFault before now = ⊥
+CheckEnds status.NotALog before now = ⊥
 
 -- ---- a generated workload
 
@@ -342,6 +359,79 @@ BenchEnds seed size status.ExportFault before now = ⊥
 BenchEnds seed size status.Memory before now = now ≡ before
 BenchEnds seed size status.NotAStream before now = ⊥
 BenchEnds seed size status.TooLong before now = ⊥
+BenchEnds seed size status.LogFault before now = ⊥
+BenchEnds seed size status.NotALog before now = ⊥
+
+-- ---- a log
+
+-- What is told of the disk: the bytes of its file, and the names that it was started with, before
+-- and now. No bytes change.
+pub record OfDisk : Type 0 where
+  pub file : Option (List ℕ)
+  pub before : Option (List (List ℕ))
+  pub now : Option (List (List ℕ))
+
+abbrev pub of_disk : Option (List ℕ) → Option (List (List ℕ)) → Option (List (List ℕ)) → OfDisk
+of_disk file before now = record { file = file; before = before; now = now }
+
+-- the disk was not started
+abbrev pub IsUnstarted : OfDisk → Type 0
+IsUnstarted disk = disk.now ≡ disk.before
+
+-- the disk was started once, with this name
+abbrev pub IsStartedWith : List ℕ → OfDisk → Type 0
+IsStartedWith name disk = disk.now ≡ option_map (λ names. names ++ name ∷ []) disk.before
+
+-- the place where the bytes leave the form of a log, if they do
+abbrev pub broken_at : LogEnd → Option ℕ
+broken_at (log_end.Closed gate) = None
+broken_at (log_end.Broken place) = Some place
+
+-- The file's bytes read as commits of these tables, with this end, and their text is printed.
+pub record PrintsLog
+    (Prints : Option (List ℕ) → Option (List ℕ) → List ℕ → Type 0) (tables : List TableDecl)
+    (file : Option (List ℕ)) (end : LogEnd) (before now : Option (List ℕ))
+    : Type 0 where
+  pub commits : History
+  pub fit : AreCommitsOf tables commits
+  pub read : ForSome file (λ bytes. ReadsAs tables bytes commits end)
+  pub printed : Prints before now (log_text tables commits (broken_at end))
+
+-- The input was read and is a workload, the disk was started with the path, and what its file reads
+-- as, as a log of the workload's tables, is printed.
+pub record IsLogTold
+    (Prints : Option (List ℕ) → Option (List ℕ) → List ℕ → Type 0) (path : List ℕ) (disk : OfDisk)
+    (end : LogEnd) (before now : Outside)
+    : Type 0 where
+  pub script : Script
+  pub reads : Reads script before now
+  pub started : IsStartedWith path disk
+  pub told : PrintsLog Prints script.tables disk.file end before.printed now.printed
+  pub outlet : LeavesOutlet before now
+
+-- the disk was started with the path, or was not
+abbrev pub MayBeStarted : List ℕ → OfDisk → Type 0
+MayBeStarted path disk = IsUnstarted disk ⊎ IsStartedWith path disk
+
+-- How the program ends where the words ask for the log at a path.
+abbrev pub LogEnds : List ℕ → OfDisk → Status → Outside → Outside → Type 0
+LogEnds path disk status.Done before now =
+    (gate : ℕ) × IsLogTold Appends path disk (log_end.Closed gate) before now
+LogEnds path disk status.Usage before now = ⊥
+LogEnds path disk status.Refused before now = IsUnstarted disk × IsRefused Appends before now
+LogEnds path disk status.ReadFault before now = IsUnstarted disk × IsSilent before now
+LogEnds path disk status.OutFault before now =
+    (IsUnstarted disk × IsRefused AppendsFront before now)
+    ⊎ ((end : LogEnd) × IsLogTold AppendsFront path disk end before now)
+LogEnds path disk status.ExportFault before now = ⊥
+LogEnds path disk status.Memory before now = MayBeStarted path disk × IsSilent before now
+LogEnds path disk status.NotAStream before now = ⊥
+LogEnds path disk status.TooLong before now = IsUnstarted disk
+    × ConsumesAtLeast before.left now.left (2 ^ 32) × IsSilent before now
+LogEnds path disk status.LogFault before now =
+    (script : Script) × Reads script before now × MayBeStarted path disk × IsSilent before now
+LogEnds path disk status.NotALog before now =
+    (place : ℕ) × IsLogTold Appends path disk (log_end.Broken place) before now
 
 -- How the program ends where the words ask for a text of its own: what it does, or its version.
 -- Before they are judged there may be no memory.
@@ -355,6 +445,8 @@ TextEnds text status.ExportFault before now = ⊥
 TextEnds text status.Memory before now = now ≡ before
 TextEnds text status.NotAStream before now = ⊥
 TextEnds text status.TooLong before now = ⊥
+TextEnds text status.LogFault before now = ⊥
+TextEnds text status.NotALog before now = ⊥
 
 -- How the program ends where the words ask for nothing that it does: the line that tells how it is
 -- used is printed.
@@ -368,16 +460,49 @@ UsageEnds status.ExportFault before now = ⊥
 UsageEnds status.Memory before now = now ≡ before
 UsageEnds status.NotAStream before now = ⊥
 UsageEnds status.TooLong before now = ⊥
+UsageEnds status.LogFault before now = ⊥
+UsageEnds status.NotALog before now = ⊥
 
 -- How the work ends that the words ask for.
-abbrev pub WorkEnds : Option Asked → Status → Outside → Outside → Type 0
-WorkEnds None ended before now = UsageEnds ended before now
-WorkEnds (Some (ToRun path)) ended before now = RunEnds path ended before now
-WorkEnds (Some ToShow) ended before now = ShowEnds ended before now
-WorkEnds (Some ToCheck) ended before now = CheckEnds ended before now
-WorkEnds (Some (ToBench seed size)) ended before now = BenchEnds seed size ended before now
-WorkEnds (Some ToHelp) ended before now = TextEnds help_text ended before now
-WorkEnds (Some ToVersion) ended before now = TextEnds version_line ended before now
+abbrev pub WorkEnds : Option Asked → OfDisk → Status → Outside → Outside → Type 0
+WorkEnds None disk ended before now = UsageEnds ended before now
+WorkEnds (Some (ToRun path)) disk ended before now = RunEnds path ended before now
+WorkEnds (Some ToShow) disk ended before now = ShowEnds ended before now
+WorkEnds (Some ToCheck) disk ended before now = CheckEnds ended before now
+WorkEnds (Some (ToBench seed size)) disk ended before now = BenchEnds seed size ended before now
+WorkEnds (Some (ToLog path)) disk ended before now = LogEnds path disk ended before now
+WorkEnds (Some ToHelp) disk ended before now = TextEnds help_text ended before now
+WorkEnds (Some ToVersion) disk ended before now = TextEnds version_line ended before now
+
+-- whether the words ask for a log: all other work leaves the disk alone
+abbrev pub asks_log : Option Asked → Bool
+asks_log None = false
+asks_log (Some (ToRun path)) = false
+asks_log (Some ToShow) = false
+asks_log (Some ToCheck) = false
+asks_log (Some (ToBench seed size)) = false
+asks_log (Some (ToLog path)) = true
+asks_log (Some ToHelp) = false
+asks_log (Some ToVersion) = false
+
+-- whether a log was read, where the words ask for one
+abbrev pub has_read : Status → Bool
+has_read status.Done = true
+has_read status.Usage = false
+has_read status.Refused = false
+has_read status.ReadFault = false
+has_read status.OutFault = false
+has_read status.ExportFault = false
+has_read status.Memory = false
+has_read status.NotAStream = false
+has_read status.TooLong = false
+has_read status.LogFault = false
+has_read status.NotALog = true
+
+-- Where the words ask for a log that was read, a crash leaves just the bytes that were.
+abbrev pub StaysAsRead : Option Asked → Status → Option (List ℕ) → (List ℕ → Type 0) → Type 0
+StaysAsRead asked ended file may_leave = asks_log asked ≡ true → has_read ended ≡ true
+    → ForSome file (LeavesJust may_leave)
 
 -- ---- the flush behind it
 
@@ -392,18 +517,23 @@ is_flushed status.ExportFault = false
 is_flushed status.Memory = true
 is_flushed status.NotAStream = true
 is_flushed status.TooLong = true
+is_flushed status.LogFault = false
+is_flushed status.NotALog = true
 
 -- The work ended, with a status that tells of no failed call, and the flush behind it failed: all
 -- that was due is printed, and how much of it was handed on is not told.
-pub record FailsFlush (asked : Option Asked) (ended : Status) (before now : Outside) : Type 0 where
-  pub told : ended ≡ status.OutFault
-  pub worked : Status
-  pub well : is_flushed worked ≡ true
-  pub work : WorkEnds asked worked before now
+pub record FailsFlush
+    (asked : Option Asked) (disk : OfDisk) (ended : Status) (before now : Outside) : Type 0
+  where
+    pub told : ended ≡ status.OutFault
+    pub worked : Status
+    pub well : is_flushed worked ≡ true
+    pub work : WorkEnds asked disk worked before now
 
 -- How the program ends, by what the words ask for: as the work does, or at the flush behind it.
-abbrev pub Ends : Option Asked → Status → Outside → Outside → Type 0
-Ends asked ended before now = WorkEnds asked ended before now ⊎ FailsFlush asked ended before now
+abbrev pub Ends : Option Asked → OfDisk → Status → Outside → Outside → Type 0
+Ends asked disk ended before now = WorkEnds asked disk ended before now
+    ⊎ FailsFlush asked disk ended before now
 
 -- With a status that tells of no failed call, all that was written to the output was flushed.
 abbrev pub IsFlushed : Status → Option (List ℕ) → Option (List ℕ) → Type 0

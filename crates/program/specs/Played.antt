@@ -22,6 +22,8 @@ PlayEnds Goes script status.ExportFault before now = GoesToExport Goes script be
 PlayEnds Goes script status.Memory before now = GoesStopped Goes script before now
 PlayEnds Goes script status.NotAStream before now = ⊥
 PlayEnds Goes script status.TooLong before now = ⊥
+PlayEnds Goes script status.LogFault before now = ⊥
+PlayEnds Goes script status.NotALog before now = ⊥
 
 -- The line of a refusal is printed: the bad line and its cause. Want of memory is told by no line.
 abbrev pub TellsFault : (Option (List ℕ) → Option (List ℕ) → List ℕ → Type 0) → ScriptFault
@@ -41,3 +43,5 @@ RefusalEnds told status.ExportFault before now = ⊥
 RefusalEnds told status.Memory before now = now ≡ before
 RefusalEnds told status.NotAStream before now = ⊥
 RefusalEnds told status.TooLong before now = ⊥
+RefusalEnds told status.LogFault before now = ⊥
+RefusalEnds told status.NotALog before now = ⊥

@@ -21,3 +21,5 @@ VerdictEnds script output status.ExportFault before now = ⊥
 VerdictEnds script output status.Memory before now = now ≡ before
 VerdictEnds script output status.NotAStream before now = ⊥
 VerdictEnds script output status.TooLong before now = ⊥
+VerdictEnds script output status.LogFault before now = ⊥
+VerdictEnds script output status.NotALog before now = ⊥

@@ -19,18 +19,19 @@ use Rattle.program.specs.declared.words.Work.TheVariants as work
 
 -- What the words ask for: to run a workload, and to export to a path if there is one; to show a
 -- stream; to check an output; to run the workload that a seed and a size generate; to tell what the
--- program does; to tell its version.
+-- log at a path holds; to tell what the program does; to tell its version.
 pub data Asked : Type 0 where
   ToRun : Option Text → Asked
   ToShow : Asked
   ToCheck : Asked
   ToBench : ℕ → ℕ → Asked
+  ToLog : Text → Asked
   ToHelp : Asked
   ToVersion : Asked
 
 -- The program's command: `run [--export PATH]`, `show`, `check`, `bench SEED SIZE` with a seed
--- of 64 bits and a size of 1 to 4,096, and `help [COMMAND]`. It and each of these take `--help` and
--- `-h`, it itself `--version` and `-V`.
+-- of 64 bits and a size of 1 to 4,096, `log PATH`, and `help [COMMAND]`. It and each of these take
+-- `--help` and `-h`, it itself `--version` and `-V`.
 abbrev pub export_rule : Rule
 export_rule = record (new_rule (codes "export")) { long = Some (codes "export") }
 
@@ -46,11 +47,17 @@ size_rule = record (new_rule (codes "size")) {
   parser = Some (parser.Signed (pos 1) (pos most_size));
 }
 
+abbrev pub path_rule : Rule
+path_rule = record (new_rule (codes "path")) { required = true }
+
 abbrev pub run_app : App
 run_app = with_rule (new_app (codes "run")) export_rule
 
 abbrev pub bench_app : App
 bench_app = with_rule (with_rule (new_app (codes "bench")) seed_rule) size_rule
+
+abbrev pub log_app : App
+log_app = with_rule (new_app (codes "log")) path_rule
 
 abbrev pub help_app : App
 help_app = with_rule (new_app (codes "help")) (new_rule (codes "command"))
@@ -66,9 +73,9 @@ named_app = record (new_app (codes "mainline")) {
 
 abbrev pub mainline_app : App
 mainline_app =
-    with_subcommand (with_subcommand (with_subcommand (with_subcommand (with_subcommand named_app
-    run_app.top) (new_app (codes "show")).top) (new_app (codes "check")).top) bench_app.top)
-    help_app.top
+    with_subcommand (with_subcommand (with_subcommand (with_subcommand (with_subcommand
+    (with_subcommand named_app run_app.top) (new_app (codes "show")).top)
+    (new_app (codes "check")).top) bench_app.top) log_app.top) help_app.top
 
 -- there is a decimal digit, and each byte is one
 abbrev pub are_digits : Text → Bool
@@ -95,11 +102,15 @@ bench_asks rows = option_and_then
     (λ seed. option_map (ToBench seed) (number_at (codes "size") 1 most_size rows))
     (number_at (codes "seed") 0 (2 ^ 64 - 1) rows)
 
+-- the path of a log
+abbrev pub log_asks : List Row → Option Asked
+log_asks rows = option_map ToLog (first_of (codes "path") rows)
+
 -- the word is a command of the program
 abbrev pub is_command : Text → Bool
 is_command word = bytes_eq word (codes "run") || bytes_eq word (codes "show")
     || bytes_eq word (codes "check") || bytes_eq word (codes "bench")
-    || bytes_eq word (codes "help")
+    || bytes_eq word (codes "log") || bytes_eq word (codes "help")
 
 -- help, where the word after `help` is a command or there is none
 abbrev pub help_asks : List Row → Option Asked
@@ -113,7 +124,8 @@ command_asks name rows =
     else (if bytes_eq name (codes "show") then Some ToShow
     else (if bytes_eq name (codes "check") then Some ToCheck
     else (if bytes_eq name (codes "bench") then bench_asks rows
-    else (if bytes_eq name (codes "help") then help_asks rows else None))))
+    else (if bytes_eq name (codes "log") then log_asks rows
+    else (if bytes_eq name (codes "help") then help_asks rows else None)))))
 
 abbrev pub asked_of : Option (Text × List Row) → Option Asked
 asked_of named = option_and_then (λ of. command_asks of.0 of.1) named
@@ -157,6 +169,7 @@ meaning (work.Run path) = ToRun (option_map (λ p. p.now) path)
 meaning work.Show = ToShow
 meaning work.Check = ToCheck
 meaning (work.Bench seed size) = ToBench seed size
+meaning (work.Log path) = ToLog path.now
 meaning work.Help = ToHelp
 meaning work.Version = ToVersion
 
@@ -166,12 +179,13 @@ IsSized (work.Run path) = Unit {0}
 IsSized work.Show = Unit {0}
 IsSized work.Check = Unit {0}
 IsSized (work.Bench seed size) = size ≤ most_size
+IsSized (work.Log path) = Unit {0}
 IsSized work.Help = Unit {0}
 IsSized work.Version = Unit {0}
 
 -- the line that tells how the program is used
 abbrev pub usage_line : List ℕ
-usage_line = codes "usage: mainline run [--export PATH] | show | check | bench SEED SIZE\n"
+usage_line = codes "usage: mainline run [--export PATH] | show | check | bench SEED SIZE | log PATH\n"
 
 -- the name and the version of the program
 abbrev pub version_line : List ℕ
@@ -182,13 +196,15 @@ abbrev pub help_text : List ℕ
 help_text =
     codes "mainline: a transactional storage engine in memory, whose tables stand in Arrow blocks\n"
     ++ codes "\n"
-    ++ codes "usage: mainline run [--export PATH] | show | check | bench SEED SIZE\n"
+    ++ codes "usage: mainline run [--export PATH] | show | check | bench SEED SIZE | log PATH\n"
     ++ codes "\n"
     ++ codes "  run [--export PATH]  run a workload, print its replies, export to a file\n"
     ++ codes "  show                 print the columns and the rows of an Arrow stream\n"
     ++ codes "  check                say whether snapshot isolation explains an output\n"
     ++ codes "  bench SEED SIZE      run a generated workload, print what is counted of it\n"
+    ++ codes "  log PATH             print the commits of a log\n"
     ++ codes "  help [COMMAND]       print this text, as -h and --help do\n"
     ++ codes "\n"
     ++ codes "All but help and bench read standard input. A check reads a workload, a line ====\n"
-    ++ codes "and an output. SEED is below 2^64, SIZE 1 to 4096. --version prints the version.\n"
+    ++ codes "and an output; log reads a workload, whose tables are the log's. SEED is below\n"
+    ++ codes "2^64, SIZE 1 to 4096. --version prints the version.\n"

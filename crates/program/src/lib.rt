@@ -1,8 +1,10 @@
-//! What the program does with its words, its input, its output and its outlet, as one call.
+//! What the program does with its words, its input, its output, its outlet and its disk, as one
+//! call.
 #![tactic(auto)]
 
 mod benching;
 mod checking;
+mod log_telling;
 mod output;
 mod performing;
 mod showing;

@@ -1,9 +1,10 @@
-//! What the program does with its words, its input, its output and its outlet.
+//! What the program does with its words, its input, its output, its outlet and its disk.
 ghost use Rattle.std.specs.Prelude.{◌≡◌, ◌≢◌, ◌<◌, ◌^◌, ℕ, List, Option, None, length, map};
-ghost use Rattle.std.specs.Prelude.{true, string_bytes, option_map, IfOk, OnOk, OnErr};
+ghost use Rattle.std.specs.Prelude.{false, true, string_bytes, option_map, IfOk, OnOk, OnErr};
 ghost use Rattle.std.specs.Prelude.{if◌then◌else◌};
 ghost use Rattle.std.specs.List.{list_any};
 ghost use Rattle.byte_ports.specs.Calls.{Rose};
+ghost use Rattle.commit_log.specs.Readings.{OnlyReads};
 ghost use Rattle.workload_spec.specs.Valid.{IsWritten, is_export};
 ghost use Rattle.workload_spec.specs.Grammar.{script_of};
 ghost use Rattle.script_text.specs.Answers.{LineGives};
@@ -11,13 +12,15 @@ ghost use Rattle.export_spec.specs.Sent.{has_export};
 ghost use Rattle.workload_spec.specs.ScriptText.{script_text};
 ghost use Rattle.store_rounds.specs.Workloads.{WentBy};
 ghost use Rattle.program.specs.Flushed.{FlushEnds};
-ghost use Rattle.program.specs.Outcome.{Ends, IsFlushed, RunEnds, ScriptEnds, WorkEnds};
-ghost use Rattle.program.specs.Outcome.{TellsFaults, is_flushed, outside, started_by};
+ghost use Rattle.program.specs.Outcome.{Ends, IsFlushed, RunEnds, ScriptEnds, StaysAsRead};
+ghost use Rattle.program.specs.Outcome.{TellsFaults, WorkEnds, asks_log, is_flushed, of_disk};
+ghost use Rattle.program.specs.Outcome.{outside, started_by};
 ghost use Rattle.program.specs.Played.{RefusalEnds, PlayEnds};
 ghost use Rattle.program.specs.Words.{asked_by};
 
 use crate::benching::bench;
 use crate::checking::check;
+use crate::log_telling::tell_log;
 use crate::showing::show;
 use crate::status::Status;
 use crate::texts::{tell_help, tell_usage, tell_version};
@@ -25,6 +28,7 @@ use crate::words::{WordsFault, Work, work_of};
 use byte_ports::{
     Failed, Gate, InputFault, Outlet, PureOutlet, Sink, Source, read_to_end, write_all,
 };
+use commit_log::Disk;
 use reply_text::put_refusal;
 use script_text::{ScriptFault, is_export, parse};
 use std::alloc::{AllocError, Global};
@@ -42,23 +46,35 @@ pub(crate) const MOST_BYTES: usize = 1 << 32;
 /// from the source in pieces, up to its end word or its first fault; its lines go to `out` as soon
 /// as they are decided. Or they ask for an output to be checked, which stands behind its workload
 /// in the source; whether it is explained goes to `out`. Or they ask for a generated workload, whose
-/// replies are counted; the counts go to `out`, and its export is dropped. Or they ask for help or
-/// for the version, which go to `out`.
+/// replies are counted; the counts go to `out`, and its export is dropped. Or they ask what the log at
+/// a path holds: the disk is started with the path to be read, and the commits that its file has of
+/// the tables of the workload in the source go to `out`. Or they ask for help or for the version,
+/// which go to `out`.
 ///
 /// The words are judged first, then the reading of the input, its grammar, the start of the outlet
-/// and the rounds. Where the line that tells of a fault can't be printed, the status is `OutFault`.
+/// and the rounds, or the start of the disk and the reading of its file. Where the line that tells
+/// of a fault can't be printed, the status is `OutFault`.
 /// Behind a work in which no call failed `out` is flushed; where that fails, the status is
 /// `OutFault` too.
-pub fn perform<R: Wait + Threads + Sync, S: Source, O: Sink, X: Outlet + Send, G: Gate + Sync>(
+pub fn perform<
+    R: Wait + Threads + Sync,
+    S: Source,
+    O: Sink,
+    X: Outlet + Send,
+    D: Disk,
+    G: Gate + Sync,
+>(
     rt: &R,
     alloc: Global,
     words: Vec<String>,
     source: &mut S,
     out: &mut O,
     export: &mut X,
+    disk: &mut D,
     gate: &G,
 ) -> Status
-    ensures ends { Ends (asked_by (map string_bytes words.items)) result
+    ensures ends { Ends (asked_by (map string_bytes words.items))
+        (of_disk (D.told disk.old) (D.started disk.old) (D.started disk.new)) result
         (outside (S.left source.old) (O.written out.old) (X.written export.old)
         (X.started export.old))
         (outside (S.left source.new) (O.written out.new) (X.written export.new)
@@ -68,23 +84,39 @@ pub fn perform<R: Wait + Threads + Sync, S: Source, O: Sink, X: Outlet + Send, G
     ensures out_faults { TellsFaults Status.OutFault result (O.faults out.old) (O.faults out.new) }
     ensures export_faults { TellsFaults Status.ExportFault result (X.faults export.old)
         (X.faults export.new) }
+    ensures log_faults { TellsFaults Status.LogFault result (D.faults disk.old)
+        (D.faults disk.new) }
+    ensures left { asks_log (asked_by (map string_bytes words.items)) ≡ false
+        → disk.new ≡ disk.old }
+    ensures reads { OnlyReads D.told D.may_leave D.moment D.left_since disk.old disk.new }
+    ensures stays { StaysAsRead (asked_by (map string_bytes words.items)) result
+        (D.told disk.old) (D.may_leave disk.new) }
     ensures flushed { IsFlushed result (O.flushed out.new) (O.written out.new) }
 {
-    let worked = carry_out(rt, alloc, words, source, out, export, gate);
+    let worked = carry_out(rt, alloc, words, source, out, export, disk, gate);
     flush_behind(worked, out)
 }
 
 /// Does what the words ask for.
-fn carry_out<R: Wait + Threads + Sync, S: Source, O: Sink, X: Outlet + Send, G: Gate + Sync>(
+fn carry_out<
+    R: Wait + Threads + Sync,
+    S: Source,
+    O: Sink,
+    X: Outlet + Send,
+    D: Disk,
+    G: Gate + Sync,
+>(
     rt: &R,
     alloc: Global,
     words: Vec<String>,
     source: &mut S,
     out: &mut O,
     export: &mut X,
+    disk: &mut D,
     gate: &G,
 ) -> Status
-    ensures ends { WorkEnds (asked_by (map string_bytes words.items)) result
+    ensures ends { WorkEnds (asked_by (map string_bytes words.items))
+        (of_disk (D.told disk.old) (D.started disk.old) (D.started disk.new)) result
         (outside (S.left source.old) (O.written out.old) (X.written export.old)
         (X.started export.old))
         (outside (S.left source.new) (O.written out.new) (X.written export.new)
@@ -94,12 +126,20 @@ fn carry_out<R: Wait + Threads + Sync, S: Source, O: Sink, X: Outlet + Send, G: 
     ensures out_faults { TellsFaults Status.OutFault result (O.faults out.old) (O.faults out.new) }
     ensures export_faults { TellsFaults Status.ExportFault result (X.faults export.old)
         (X.faults export.new) }
+    ensures log_faults { TellsFaults Status.LogFault result (D.faults disk.old)
+        (D.faults disk.new) }
+    ensures left { asks_log (asked_by (map string_bytes words.items)) ≡ false
+        → disk.new ≡ disk.old }
+    ensures reads { OnlyReads D.told D.may_leave D.moment D.left_since disk.old disk.new }
+    ensures stays { StaysAsRead (asked_by (map string_bytes words.items)) result
+        (D.told disk.old) (D.may_leave disk.new) }
 {
     match work_of(alloc, &words) {
         Ok(Work::Run(path)) => run(rt, alloc, path, source, out, export, gate),
         Ok(Work::Show) => show(alloc, source, out),
         Ok(Work::Check) => check(alloc, source, out),
         Ok(Work::Bench { seed, size }) => bench(rt, alloc, seed, size, out, gate),
+        Ok(Work::Log(path)) => tell_log(alloc, path, source, out, disk),
         Ok(Work::Help) => tell_help(out),
         Ok(Work::Version) => tell_version(out),
         Err(WordsFault::Usage) => tell_usage(out),
@@ -117,8 +157,9 @@ fn is_flushed(worked: Status) -> bool
         | Status::Refused
         | Status::Memory
         | Status::NotAStream
-        | Status::TooLong => true,
-        Status::ReadFault | Status::OutFault | Status::ExportFault => false,
+        | Status::TooLong
+        | Status::NotALog => true,
+        Status::ReadFault | Status::OutFault | Status::ExportFault | Status::LogFault => false,
     }
 }
 
@@ -174,7 +215,7 @@ fn run<R: Wait + Threads + Sync, S: Source, O: Sink, X: Outlet, G: Gate + Sync>(
 }
 
 /// The workload that the bytes are.
-fn parse_script(alloc: Global, bytes: &[u8]) -> Result<Script, ScriptFault>
+pub(crate) fn parse_script(alloc: Global, bytes: &[u8]) -> Result<Script, ScriptFault>
     ensures read { LineGives (λ script. script) result (script_of bytes.now) }
     ensures written { IfOk result IsWritten }
 {

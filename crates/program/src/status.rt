@@ -22,6 +22,10 @@ pub enum Status {
     NotAStream = 7,
     /// 2^32 bytes were read without the end of the input.
     TooLong = 8,
+    /// The log could not be opened or read.
+    LogFault = 9,
+    /// The file is no log.
+    NotALog = 10,
 }
 
 /// The program ends with the number of the status.

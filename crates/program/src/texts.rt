@@ -7,22 +7,25 @@ use crate::status::Status;
 use byte_ports::{Failed, Sink, write_all};
 
 /// How the program is used.
-const USAGE: &[u8] = b"usage: mainline run [--export PATH] | show | check | bench SEED SIZE\n";
+const USAGE: &[u8] =
+    b"usage: mainline run [--export PATH] | show | check | bench SEED SIZE | log PATH\n";
 
 /// What the program does, each command with a line.
 const HELP: &[u8] =
     b"mainline: a transactional storage engine in memory, whose tables stand in Arrow blocks\n\
     \n\
-    usage: mainline run [--export PATH] | show | check | bench SEED SIZE\n\
+    usage: mainline run [--export PATH] | show | check | bench SEED SIZE | log PATH\n\
     \n\
     \x20 run [--export PATH]  run a workload, print its replies, export to a file\n\
     \x20 show                 print the columns and the rows of an Arrow stream\n\
     \x20 check                say whether snapshot isolation explains an output\n\
     \x20 bench SEED SIZE      run a generated workload, print what is counted of it\n\
+    \x20 log PATH             print the commits of a log\n\
     \x20 help [COMMAND]       print this text, as -h and --help do\n\
     \n\
     All but help and bench read standard input. A check reads a workload, a line ====\n\
-    and an output. SEED is below 2^64, SIZE 1 to 4096. --version prints the version.\n";
+    and an output; log reads a workload, whose tables are the log's. SEED is below\n\
+    2^64, SIZE 1 to 4096. --version prints the version.\n";
 
 /// The name and the version of the program.
 const VERSION: &[u8] = b"mainline 0.1.0\n";

@@ -5,8 +5,9 @@ ghost use Rattle.std.specs.Option.{option_map_or};
 ghost use Rattle.clap.specs.Words.{app_of, found_of, kind_of, rows_of};
 ghost use Rattle.clap.specs.declared.builder.command.Command.TheViews.{out-Command};
 ghost use Rattle.program.specs.Words.{IsSized, asked_by, bench_app, bench_asks, command_asks};
-ghost use Rattle.program.specs.Words.{help_app, help_asks, is_command, mainline_app, meaning};
-ghost use Rattle.program.specs.Words.{named_app, number_at, number_in, run_app, stopped_asks};
+ghost use Rattle.program.specs.Words.{help_app, help_asks, is_command, log_app, log_asks};
+ghost use Rattle.program.specs.Words.{mainline_app, meaning, named_app, number_at, number_in};
+ghost use Rattle.program.specs.Words.{run_app, stopped_asks};
 
 use clap::error::ErrorKind;
 use clap::{Arg, ArgMatches, Command, Error};
@@ -26,6 +27,8 @@ pub enum Work<'a> {
     Check,
     /// To run the workload that a seed and a size generate.
     Bench { seed: u64, size: u32 },
+    /// To tell what the log at this path holds.
+    Log(&'a str),
     /// To tell what the program does.
     Help,
     /// To tell the program's version.
@@ -93,6 +96,8 @@ fn named<'a>(name: &str, matches: &ArgMatches<'a>) -> Option<Work<'a>>
         Some(Work::Check)
     } else if name == "bench" {
         bench_of(matches)
+    } else if name == "log" {
+        log_of(matches)
     } else if name == "help" {
         help_of(matches)
     } else {
@@ -123,7 +128,12 @@ fn is_command_or_none(word: Option<&str>) -> bool
 fn is_command(word: &str) -> bool
     ensures { result ≡ is_command word.now }
 {
-    word == "run" || word == "show" || word == "check" || word == "bench" || word == "help"
+    word == "run"
+        || word == "show"
+        || word == "check"
+        || word == "bench"
+        || word == "log"
+        || word == "help"
 }
 
 /// The seed and the size that the words give.
@@ -137,6 +147,17 @@ fn bench_of<'a>(matches: &ArgMatches<'a>) -> Option<Work<'a>>
         seed,
         size: size as u32,
     })
+}
+
+/// The path of the log that the words give.
+fn log_of<'a>(matches: &ArgMatches<'a>) -> Option<Work<'a>>
+    ensures asked { option_map meaning result ≡ log_asks (rows_of (found_of matches.now)) }
+    ensures sized { IfSome result IsSized }
+{
+    match matches.get_str("path") {
+        Some(path) => Some(Work::Log(path)),
+        None => None,
+    }
 }
 
 /// The number that the first word under a name gives, where it lies between these two.
@@ -170,6 +191,7 @@ fn command<'a>(alloc: Global) -> Result<Command<'a>, AllocError>
         .subcommand(Command::new(alloc, "show"))?
         .subcommand(Command::new(alloc, "check"))?
         .subcommand(bench_command(alloc)?)?
+        .subcommand(log_command(alloc)?)?
         .subcommand(help_command(alloc)?)
 }
 
@@ -210,4 +232,12 @@ fn bench_command<'a>(alloc: Global) -> Result<Command<'a>, AllocError>
         .required(true)
         .value_parser(clap::value_parser!(u16).range(1..=4096));
     Command::new(alloc, "bench").arg(seed)?.arg(size)
+}
+
+/// The command to tell what the log at a path holds.
+fn log_command<'a>(alloc: Global) -> Result<Command<'a>, AllocError>
+    ensures app { IfOk result (λ command. app_of command ≡ log_app) }
+    ensures plain { IfOk result (λ command. (out-Command command).has_globals ≡ false) }
+{
+    Command::new(alloc, "log").arg(Arg::new(alloc, "path").required(true))
 }

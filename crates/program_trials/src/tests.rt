@@ -3,9 +3,11 @@ mod checked;
 mod gated;
 mod hostile;
 mod kinds;
+mod logs;
 
 use crate::tests::gated::{Noted, NotingGate, NotingOutlet, NotingSink};
 use byte_ports::{ListOutlet, ListSink, ListSource};
+use disk_ports::MemoryDisk;
 use program::{Status, perform};
 use std::alloc::{AllocError, Global};
 use std::process::Abort;
@@ -18,7 +20,8 @@ const HEAD: &str = "store 1\ntable b key:i64 slots 8 blocks 1\nsessions 1\nworke
 
 const RUN: [&str; 4] = ["mainline", "run", "--export", "e"];
 
-const USAGE: &str = "usage: mainline run [--export PATH] | show | check | bench SEED SIZE\n";
+const USAGE: &str =
+    "usage: mainline run [--export PATH] | show | check | bench SEED SIZE | log PATH\n";
 
 const EXPORT: &str = "1 begin\n1 export b\n";
 
@@ -249,8 +252,18 @@ fn run<R: Wait + Threads + Sync>(
     };
     let mut outlet = NotingOutlet::new(ListOutlet::new(alloc, failing.outlet)?, &noted);
     let words = owned(alloc, words)?;
+    let mut disk = MemoryDisk::new(alloc, &[], &[])?;
     let gate = NotingGate { noted: &noted };
-    let status = perform(rt, alloc, words, &mut source, &mut out, &mut outlet, &gate);
+    let status = perform(
+        rt,
+        alloc,
+        words,
+        &mut source,
+        &mut out,
+        &mut outlet,
+        &mut disk,
+        &gate,
+    );
     Ok(Ended {
         status,
         out: out.sink,

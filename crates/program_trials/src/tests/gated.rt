@@ -5,6 +5,7 @@ ghost use Rattle.std.specs.Prelude.{Some, refl};
 
 use super::{RUN, owned};
 use byte_ports::{Failed, Gate, ListOutlet, ListSink, ListSource, Outlet, Sink};
+use disk_ports::MemoryDisk;
 use program::{Status, perform};
 use std::alloc::{AllocError, Global};
 use std::sync::Wait;
@@ -244,6 +245,16 @@ fn run_noted<R: Wait + Threads + Sync>(
         noted,
     };
     let words = owned(alloc, &RUN)?;
+    let mut disk = MemoryDisk::new(alloc, &[], &[])?;
     let gate = NotingGate { noted };
-    Ok(perform(rt, alloc, words, &mut source, &mut out, outlet, &gate))
+    Ok(perform(
+        rt,
+        alloc,
+        words,
+        &mut source,
+        &mut out,
+        outlet,
+        &mut disk,
+        &gate,
+    ))
 }

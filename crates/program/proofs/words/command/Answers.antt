@@ -1,7 +1,7 @@
 use Rattle.std.proofs.Common.{◌≡◌, ap, ap₂, ◌∙◌, codes}
 use Rattle.std.proofs.lemmas.Result.{IfOk-weaker}
 use Rattle.clap.specs.Words.{App, app_of, new_app, with_subcommand}
-use Rattle.program.specs.Words.{bench_app, named_app, run_app}
+use Rattle.program.specs.Words.{bench_app, log_app, named_app, run_app}
 use Rattle.program.proofs.words.command.Goals as goal
 
 pub returns : goal.returns
@@ -19,7 +19,11 @@ returns c =
     ≡ with_subcommand (with_subcommand (with_subcommand (with_subcommand named_app run_app.top) (new_app (codes "show")).top) (new_app (codes "check")).top) bench_app.top =
     c.in_ok-subcommand-4.ensures.shape c.in_ok-bench_command.ensures.plain
     ∙ ap₂ with_subcommand third (ap (λ (a : App). a.top) c.in_ok-bench_command.ensures.app) in
-    IfOk-weaker c.subcommand-5.result _ _
+    let fifth : app_of c.in_ok-subcommand-5.field-0
+    ≡ with_subcommand (with_subcommand (with_subcommand (with_subcommand (with_subcommand named_app run_app.top) (new_app (codes "show")).top) (new_app (codes "check")).top) bench_app.top) log_app.top =
+    c.in_ok-subcommand-5.ensures.shape c.in_ok-log_command.ensures.plain
+    ∙ ap₂ with_subcommand fourth (ap (λ (a : App). a.top) c.in_ok-log_command.ensures.app) in
+    IfOk-weaker c.subcommand-6.result _ _
     (λ command adds. adds.shape c.in_ok-help_command.ensures.plain
-    ∙ ap₂ with_subcommand fourth (ap (λ (a : App). a.top) c.in_ok-help_command.ensures.app))
-    c.subcommand-5.ensures
+    ∙ ap₂ with_subcommand fifth (ap (λ (a : App). a.top) c.in_ok-help_command.ensures.app))
+    c.subcommand-6.ensures
