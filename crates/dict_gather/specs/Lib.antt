@@ -1,2 +1,4 @@
+pub mod Columns
 pub mod Heads
 pub mod Places
+pub mod Starts

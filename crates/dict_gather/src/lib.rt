@@ -4,3 +4,4 @@
 
 mod heads;
 mod placed;
+mod slots;
