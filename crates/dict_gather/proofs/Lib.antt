@@ -1,2 +1,4 @@
 pub mod HeadLemmas
 pub mod SlotLemmas
+pub mod WalkLemmas
+pub mod PlaceLemmas

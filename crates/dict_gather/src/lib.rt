@@ -5,3 +5,4 @@
 mod heads;
 mod placed;
 mod slots;
+mod walk;
