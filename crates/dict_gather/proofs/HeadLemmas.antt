@@ -67,11 +67,11 @@ lower-before (suc n) (first ∷ one) (second ∷ two) ones twos below =
     (nat_cmp first second) (ranked first second (nat_cmp first second) refl)
     (λ is less. less-then (nat_cmp first second) (slice_cmp nat_cmp one two) is)
     (λ is same. equal-then (nat_cmp first second) (slice_cmp nat_cmp one two) is
-      ∙ lower-before n one two (rest-bytes first one ones) (rest-bytes second two twos)
-      (let front : first * 256 ^ n ≡ second * 256 ^ n = ap (λ (b : ℕ). b * 256 ^ n) same in
-        omega arith))
+    ∙ lower-before n one two (rest-bytes first one ones) (rest-bytes second two twos)
+    (let front : first * 256 ^ n ≡ second * 256 ^ n = ap (λ (b : ℕ). b * 256 ^ n) same in
+    omega arith))
     (λ is more. let back = lower n second first (big_number n two) (big_number n one) more small in
-      absurd (omega arith))
+    absurd (omega arith))
 
 -- equal numbers with a first byte have equal first bytes
 first-same : (n one two first second : ℕ) → one * 256 ^ n + first ≡ two * 256 ^ n + second
@@ -106,7 +106,7 @@ both-same n one two first second ones twos same =
     let small : big_number n one < 256 ^ n = big_from-lt 0 n one (rest-bytes first one ones) in
     let few : big_number n two < 256 ^ n = big_from-lt 0 n two (rest-bytes second two twos) in
     let alike : first ≡ second = first-same n first second (big_number n one) (big_number n two)
-        (sym here ∙ same ∙ there) small few in
+    (sym here ∙ same ∙ there) small few in
     let front : first * 256 ^ n ≡ second * 256 ^ n = ap (λ (b : ℕ). b * 256 ^ n) alike in
     (ap (nat_cmp first) (sym alike) ∙ nat-same first, omega arith)
 
@@ -188,7 +188,7 @@ heads-decide one two Less ones twos is apart =
 heads-decide one two Equal ones twos is apart = absurd (apart refl)
 heads-decide one two Greater ones twos is apart =
     let back : slice_cmp nat_cmp two one ≡ Less = lower-before 16 two one twos ones
-        (ranked (big_number 16 one) (big_number 16 two) Greater is) in
+    (ranked (big_number 16 one) (big_number 16 two) Greater is) in
     sym (nat_list_cmp_total.antisymm one two ∙ ap ordering_reverse back)
 
 -- heads that compare as equal are equal

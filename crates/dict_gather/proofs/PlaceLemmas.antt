@@ -1,5 +1,5 @@
 -- The values of cells with their slots, and what a walk over them finds.
-use Rattle.std.proofs.Common.{◌≡◌, ◌⊎◌, inl, inr, ℕ, zero, suc, ◌+◌, ◌<◌, ◌≤◌, Bool, true, false, List, [], ◌∷◌, length, get_or, map, refl, sym, ap, ◌∙◌, subst, arith}
+use Rattle.std.proofs.Common.{◌≡◌, inl, inr, ℕ, zero, suc, ◌+◌, ◌<◌, ◌≤◌, Bool, true, false, List, [], ◌∷◌, length, get_or, refl, sym, ap, ◌∙◌, subst, arith}
 use Rattle.std.specs.Prelude.{if◌then◌else◌, IsPermutation, All, Contains}
 use Rattle.std.specs.List.{AllByRecursion}
 use Rattle.std.proofs.lemmas.Bool.{true≢false}
@@ -148,16 +148,16 @@ pub values-found : (cells : List Cell) (placed : List PlacedValue) (rows : ℕ) 
 values-found cells placed rows values indices same passed =
     sym (dictionary-is values cells passed.rises
     (λ (value : List ℕ) (among : Among value values).
-      let found = passed.only value among in
-      let d : PlacedValue = record { value = []; slot = 0 } in
-      let is = each-placed cells placed same found.0 d found.1.0 in
-      subst (λ (v : List ℕ). AmongCells v cells) (is.value_is ∙ found.1.1 d) (cells-among cells is.at is.inside is.valid))
+    let found = passed.only value among in
+    let d : PlacedValue = record { value = []; slot = 0 } in
+    let is = each-placed cells placed same found.0 d found.1.0 in
+    subst (λ (v : List ℕ). AmongCells v cells) (is.value_is ∙ found.1.1 d) (cells-among cells is.at is.inside is.valid))
     (λ (value : List ℕ) (among : AmongCells value cells).
-      let stands = among-at value cells among in
-      let has = place-of cells placed same stands.at stands.inside stands.valid in
-      let place : PlacedValue = record { value = value_of (get_or cells stands.at Null); slot = 0 + stands.at } in
-      subst (λ (v : List ℕ). Among v values) (ap (λ (p : PlacedValue). p.value) has.2 ∙ stands.value_is)
-      (passed.all has.0 place has.1)))
+    let stands = among-at value cells among in
+    let has = place-of cells placed same stands.at stands.inside stands.valid in
+    let place : PlacedValue = record { value = value_of (get_or cells stands.at Null); slot = 0 + stands.at } in
+    subst (λ (v : List ℕ). Among v values) (ap (λ (p : PlacedValue). p.value) has.2 ∙ stands.value_is)
+    (passed.all has.0 place has.1)))
 
 index-by : (null : Bool) (cells : List Cell) (placed : List PlacedValue) (rows : ℕ) (values : List (List ℕ)) (indices : List ℕ)
     → IsPermutation (placed_from 0 cells) placed → IsPassed placed rows (length placed) values indices → values ≡ dictionary_of cells
@@ -186,6 +186,6 @@ indices-found cells placed rows values indices count same passed =
     let size : length (indices_of cells) ≡ length cells = length-map cells number in
     ext_get_or 0 indices (indices_of cells) (passed.long ∙ sym count ∙ sym size)
     (λ slot below.
-      let inside : slot < length cells = omega (arith, passed.long, count) in
-      index-by (is_null (get_or cells slot Null)) cells placed rows values indices same passed all slot inside refl
-      ∙ sym (get_or-map number cells slot Null 0 inside))
+    let inside : slot < length cells = omega (arith, passed.long, count) in
+    index-by (is_null (get_or cells slot Null)) cells placed rows values indices same passed all slot inside refl
+    ∙ sym (get_or-map number cells slot Null 0 inside))

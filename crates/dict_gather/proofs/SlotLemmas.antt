@@ -1,10 +1,10 @@
 -- The cells of a column, read from its buffers.
-use Rattle.std.proofs.Common.{◌≡◌, ℕ, zero, suc, ◌+◌, ◌-◌, ◌*◌, ◌/◌, ◌%◌, ◌^◌, ◌<◌, ◌≤◌, Bool, true, false, List, [], ◌∷◌, ◌++◌, length, take, drop, map, get_or, refl, sym, ap, ◌∙◌, subst, arith, length-append}
+use Rattle.std.proofs.Common.{◌≡◌, ℕ, zero, suc, ◌+◌, ◌-◌, ◌*◌, ◌/◌, ◌%◌, ◌^◌, ◌<◌, ◌≤◌, Bool, true, false, List, [], ◌∷◌, ◌++◌, length, take, drop, map, get_or, refl, sym, ap, ◌∙◌, arith, length-append}
 use Rattle.std.specs.Prelude.{not, ◌==◌, flat_map, if◌then◌else◌, slice_index, slice_index_or}
 use Rattle.std.specs.Int.{bit_at, w32, to_le_bytes}
 use Rattle.std.specs.Simd.{first_chunks}
-use Rattle.std.proofs.lemmas.Bool.{eqb-true, ne_eqb}
-use Rattle.std.proofs.lemmas.List.{get_or-map, length-map, take-append-drop}
+use Rattle.std.proofs.lemmas.Bool.{ne_eqb}
+use Rattle.std.proofs.lemmas.List.{get_or-map, length-map}
 use Rattle.std.proofs.lemmas.List.Sums.{sum_by-cons}
 use Rattle.std.proofs.Math.Seq.{drop-append-add, take-append_seam}
 use Rattle.byteorder.specs.Endian.{little_number}
@@ -15,13 +15,13 @@ use Rattle.arrow_spec.proofs.BitLemmas.{bit_at-bitmap}
 use Rattle.cell_model.specs.Values.{is_null}
 use Rattle.cell_model.specs.declared.cell.Cell.{Cell}
 use Rattle.cell_model.specs.declared.cell.Cell.TheVariants.{Null}
-use Rattle.dict_gather.specs.Places.{PlacedValue, placed_from}
+use Rattle.dict_gather.specs.Places.{placed_from}
 use Rattle.dict_gather.specs.Starts.{start_in}
 
 -- ---- which slots have a value
 
 -- one more cell counts where it is null
-null_count-cons : (cell : Cell) (cells : List Cell)
+pub null_count-cons : (cell : Cell) (cells : List Cell)
     → null_count (cell ∷ cells) ≡ (if is_null cell then 1 else 0) + null_count cells
 null_count-cons cell cells = sum_by-cons (λ (c : Cell). if is_null c then 1 else 0) cell cells
 

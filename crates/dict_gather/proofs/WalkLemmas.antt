@@ -7,7 +7,7 @@ use Rattle.std.specs.declared.cmp.Ordering.{Ordering}
 use Rattle.std.specs.declared.cmp.Ordering.TheVariants.{Less, Equal, Greater}
 use Rattle.std.proofs.lemmas.Bool.{true≢false, cases_lt, cases_eq}
 use Rattle.std.proofs.lemmas.Cmp.{nat_list_cmp_total, tied_itself}
-use Rattle.std.proofs.lemmas.List.{get_or-set_same, get_or-set_other, get_or-replicate, get_or_default, length-set, length-replicate}
+use Rattle.std.proofs.lemmas.List.{get_or-set_same, get_or-set_other, get_or_default, length-set, length-replicate}
 use Rattle.std.proofs.lemmas.Slice.Eq.{bytes_eq-Decides}
 use Rattle.dict_spec.specs.Dictionaries.{place_in}
 use Rattle.dict_spec.proofs.Among.{Among, equal}
@@ -227,15 +227,15 @@ module _ (placed : List PlacedValue) (rows n : ℕ) (old new : List (List ℕ)) 
         ap (λ (s : ℕ). get_or (set indices place.slot (length new - 1)) s 0) same
         ∙ number place ∙ ap (place_in new) (sym value)
     | inr other ↦ elim (cases_lt i n) [
-        | inl less ↦
-            get_or-set_other indices place.slot (get_or placed i d).slot (length new - 1) 0 other
-            ∙ passed.index i d less
-            ∙ sym (goes.kept (get_or placed i d).value (passed.all i d less))
-        | inr most ↦
-            let is : i ≡ n = omega arith in
-            absurd (other (ap (λ (p : PlacedValue). p.slot)
-            (ap (λ (k : ℕ). get_or placed k d) is ∙ there placed rows n old new indices place value_in passed inside here slot tells goes d)))
-      ]
+      | inl less ↦
+          get_or-set_other indices place.slot (get_or placed i d).slot (length new - 1) 0 other
+          ∙ passed.index i d less
+          ∙ sym (goes.kept (get_or placed i d).value (passed.all i d less))
+      | inr most ↦
+          let is : i ≡ n = omega arith in
+          absurd (other (ap (λ (p : PlacedValue). p.slot)
+          (ap (λ (k : ℕ). get_or placed k d) is ∙ there placed rows n old new indices place value_in passed inside here slot tells goes d)))
+    ]
   ]
 
   zero-on : (slot' : ℕ) → ((i : ℕ) (d : PlacedValue) → i < n + 1 → (get_or placed i d).slot ≡ slot' → ⊥)

@@ -2,7 +2,14 @@
 //! "Dictionary-encoded Layout").
 #![tactic(auto)]
 
+mod dicts;
+mod encode;
+mod gather;
 mod heads;
 mod placed;
 mod slots;
+mod values;
 mod walk;
+
+pub use dicts::{Dictionary, Dicts};
+pub use gather::gather_dict;

@@ -27,10 +27,7 @@ pub struct VariableColumn<'a> {
 }
 
 /// The values of a column, each with its slot; a null has none.
-pub fn placed<'a>(
-    alloc: Global,
-    column: &VariableColumn<'a>,
-) -> Result<Vec<Placed<'a>>, AllocError>
+pub fn placed<'a>(alloc: Global, column: &VariableColumn<'a>) -> Result<Vec<Placed<'a>>, AllocError>
     requires some { (cells : List Cell) × HasCells cells column.now }
     requires few { length column.now.values.now < 2 ^ 32 }
     ensures { (cells : List Cell) → HasCells cells column.now → IfOk result (λ placed.

@@ -20,11 +20,7 @@ pub struct Walked<'a> {
 }
 
 /// The dictionary of the cells whose values these are, sorted, and the index of each cell.
-pub fn walk<'a>(
-    alloc: Global,
-    rows: u32,
-    placed: &[Placed<'a>],
-) -> Result<Walked<'a>, AllocError>
+pub fn walk<'a>(alloc: Global, rows: u32, placed: &[Placed<'a>]) -> Result<Walked<'a>, AllocError>
     requires some { (cells : List Cell) × ((length cells ≡ rows)
         × IsPermutation (placed_from 0 cells) placed.now) }
     requires sorted { IsSorted place_cmp placed.now }

@@ -1,4 +1,3 @@
-use Rattle.std.proofs.Common.{sym, ◌∙◌}
 use Rattle.dict_gather.proofs.HeadLemmas.{fits-bytes, heads-decide, heads-same}
 use Rattle.dict_gather.proofs.heads.compare.Goals as goal
 

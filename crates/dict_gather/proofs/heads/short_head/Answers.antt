@@ -1,5 +1,5 @@
 use Rattle.std.proofs.Common.{◌≡◌, ◌++◌, ◌∙◌, List, ℕ, ap, drop, length, replicate, arith}
-use borrow.Rule.Slice.PartMut.{put_mid, post_of}
+use borrow.Rule.Slice.PartMut.{put_mid}
 use Rattle.dict_gather.proofs.HeadLemmas.{head-padded}
 use Rattle.dict_gather.proofs.heads.short_head.Goals as goal
 

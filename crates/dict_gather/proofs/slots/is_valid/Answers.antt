@@ -1,4 +1,4 @@
-use Rattle.std.proofs.Common.{◌≡◌, ◌<◌, ◌∙◌, sym, arith, length, List, ℕ}
+use Rattle.std.proofs.Common.{◌∙◌, sym, arith, List}
 use Rattle.cell_model.specs.declared.cell.Cell.{Cell}
 use Rattle.dict_gather.proofs.SlotLemmas.{bitmap-room, none-null, valid-bit}
 use Rattle.dict_gather.proofs.slots.is_valid.Goals as goal

@@ -1,8 +1,6 @@
-use Rattle.std.proofs.Common.{◌≡◌, ◌+◌, ◌*◌, ◌<◌, ◌≤◌, ◌∙◌, ap, sym, arith, length, List, ℕ}
-use Rattle.std.specs.Prelude.{flat_map}
-use Rattle.arrow_spec.specs.Arrays.{value_of}
+use Rattle.std.proofs.Common.{◌+◌, ◌<◌, ◌∙◌, ap, arith, length, List}
 use Rattle.cell_model.specs.declared.cell.Cell.{Cell}
-use Rattle.dict_gather.proofs.SlotLemmas.{begins, begins-next, begins-within, length-starts, start-is, value-is}
+use Rattle.dict_gather.proofs.SlotLemmas.{begins-next, begins-within, length-starts, start-is, value-is}
 use Rattle.dict_gather.proofs.slots.value.Goals as goal
 
 pub start-begin-requires : goal.start-begin-requires

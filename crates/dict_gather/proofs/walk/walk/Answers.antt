@@ -1,6 +1,5 @@
-use Rattle.std.proofs.Common.{rules, ◌≡◌, ◌+◌, ◌-◌, ◌<◌, ◌≤◌, ◌∙◌, List, ℕ, [], length, map, set, get_or, replicate, ap, sym, subst, arith, Bor, vec_len}
+use Rattle.std.proofs.Common.{rules, ◌≡◌, ◌+◌, ◌-◌, ◌<◌, ◌∙◌, List, ℕ, [], length, map, set, get_or, replicate, ap, sym, subst, arith, Bor, vec_len}
 use Rattle.std.proofs.lemmas.List.{length-map}
-use Rattle.cell_model.specs.declared.cell.Cell.{Cell}
 use Rattle.dict_gather.specs.Places.{PlacedValue}
 use Rattle.dict_gather.proofs.PlaceLemmas.{count-placed, indices-found, slot-inside, slots-tell, value_in_slot, values-found}
 use Rattle.dict_gather.proofs.WalkLemmas.{GoesOn, IsPassed, adds-goes, passed-none, passed-on, some-values}
