@@ -103,7 +103,8 @@ impl Dicts {
 
     /// The dictionaries, in the order of the columns.
     pub fn dictionaries(&self) -> &[Option<Dictionary>]
-        ensures { result.now ≡ self.now.dictionaries }
+        ensures dictionaries { result.now ≡ self.now.dictionaries }
+        ensures each { length self.now.dictionaries ≡ length self.now.arrays }
     {
         self.dictionaries.as_slice()
     }
