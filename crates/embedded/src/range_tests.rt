@@ -122,23 +122,149 @@ fn insert_alone<R: Wait>(
     Ok(())
 }
 
+/// The keys that a range between two bounds finds.
+#[derive(Drop)]
+struct Found {
+    low: i64,
+    high: i64,
+    keys: &'static [i64],
+}
+
+/// Inserts rows of these keys in the open transaction.
+fn insert_each<R: Wait>(
+    rt: &R,
+    alloc: Global,
+    store: &Store,
+    session: &mut Session,
+    keys: &[i64],
+) -> Result<(), Fail>
+    requires session { IsSession store.now session.old }
+    requires tables { length (shape_in store.now).tables ≡ 1 }
+    ensures session { IsSession store.now session.new }
+{
+    for key in keys {
+        insert(rt, alloc, store, session, *key)?;
+    }
+    Ok(())
+}
+
+/// Reads each of these ranges in the open transaction.
+fn read_each<R: Abort + Wait>(
+    rt: &R,
+    store: &Store,
+    session: &mut Session,
+    ranges: &[Found],
+) -> Result<(), Fail>
+    requires session { IsSession store.now session.old }
+    requires tables { length (shape_in store.now).tables ≡ 1 }
+    ensures session { IsSession store.now session.new }
+{
+    for range in ranges {
+        read(rt, store, session, range.low, range.high, range.keys)?;
+    }
+    Ok(())
+}
+
+/// Deletes the row of a key in the open transaction.
+fn delete<R: Wait>(rt: &R, store: &Store, session: &mut Session, key: i64) -> Result<(), Fail>
+    requires session { IsSession store.now session.old }
+    requires tables { length (shape_in store.now).tables ≡ 1 }
+    ensures session { IsSession store.now session.new }
+{
+    if !session.busy() || !has_room(session, 2) {
+        return Err(Fail::from(STUCK));
+    }
+    store.delete(rt, session, 0, key)?;
+    Ok(())
+}
+
+/// Aborts the open transaction.
+fn abort<R: Wait>(rt: &R, store: &Store, session: &mut Session) -> Result<(), Fail>
+    requires session { IsSession store.now session.old }
+    ensures session { IsSession store.now session.new }
+{
+    if !session.busy() || !has_room(session, 1) {
+        return Err(Fail::from(STUCK));
+    }
+    store.abort(rt, session);
+    Ok(())
+}
+
+/// Commits rows of the keys 5, 2, 4 and 1, and reads ranges of them.
+fn read_ranges<R: Abort + Wait>(
+    rt: &R,
+    alloc: Global,
+    store: &Store,
+    session: &mut Session,
+    ranges: &[Found],
+) -> Result<(), Fail>
+    requires session { IsSession store.now session.old }
+    requires tables { length (shape_in store.now).tables ≡ 1 }
+{
+    begin(rt, store, session, false)?;
+    insert_each(rt, alloc, store, session, &[5, 2, 4, 1])?;
+    commit(rt, store, session)?.ok();
+    begin(rt, store, session, false)?;
+    read_each(rt, store, session, ranges)
+}
+
 /// Both bounds are counted, and a range whose bounds are turned round has no rows.
 #[test]
 fn a_range_has_the_rows_of_its_keys(rt: HostRuntime) -> Result<(), Fail> {
     let alloc = rt.alloc();
     let Opened { store, mut one, .. } = open(alloc)?;
-    begin(&rt, &store, &mut one, false)?;
-    insert(&rt, alloc, &store, &mut one, 5)?;
-    insert(&rt, alloc, &store, &mut one, 2)?;
-    insert(&rt, alloc, &store, &mut one, 4)?;
-    insert(&rt, alloc, &store, &mut one, 1)?;
-    commit(&rt, &store, &mut one)?.ok();
-    begin(&rt, &store, &mut one, false)?;
-    read(&rt, &store, &mut one, 2, 4, &[2, 4])?;
-    read(&rt, &store, &mut one, 4, 4, &[4])?;
-    read(&rt, &store, &mut one, 4, 2, &[])?;
-    read(&rt, &store, &mut one, 6, 9, &[])?;
-    read(&rt, &store, &mut one, i64::MIN, i64::MAX, &[1, 2, 4, 5])
+    let ranges = [
+        Found {
+            low: 2,
+            high: 4,
+            keys: &[2, 4],
+        },
+        Found {
+            low: 4,
+            high: 4,
+            keys: &[4],
+        },
+        Found {
+            low: 4,
+            high: 2,
+            keys: &[],
+        },
+        Found {
+            low: 6,
+            high: 9,
+            keys: &[],
+        },
+        Found {
+            low: i64::MIN,
+            high: i64::MAX,
+            keys: &[1, 2, 4, 5],
+        },
+    ];
+    read_ranges(&rt, alloc, &store, &mut one, &ranges)
+}
+
+/// Commits rows of the keys 4 and 2, and reads a range in two transactions, of which the first
+/// inserts the key 3 and deletes 4.
+fn read_beside_writes<R: Abort + Wait>(
+    rt: &R,
+    alloc: Global,
+    store: &Store,
+    one: &mut Session,
+    two: &mut Session,
+) -> Result<(), Fail>
+    requires one { IsSession store.now one.old }
+    requires two { IsSession store.now two.old }
+    requires tables { length (shape_in store.now).tables ≡ 1 }
+{
+    begin(rt, store, one, false)?;
+    insert_each(rt, alloc, store, one, &[4, 2])?;
+    commit(rt, store, one)?.ok();
+    begin(rt, store, one, false)?;
+    begin(rt, store, two, false)?;
+    insert(rt, alloc, store, one, 3)?;
+    delete(rt, store, one, 4)?;
+    read(rt, store, one, 2, 5, &[2, 3])?;
+    read(rt, store, two, 2, 5, &[2, 4])
 }
 
 /// What the transaction wrote itself stands among the rows: an insert, and a delete as a gap.
@@ -150,17 +276,31 @@ fn a_range_has_the_writes_of_its_transaction(rt: HostRuntime) -> Result<(), Fail
         mut one,
         mut two,
     } = open(alloc)?;
-    insert_alone(&rt, alloc, &store, &mut one, 4)?;
-    insert_alone(&rt, alloc, &store, &mut one, 2)?;
-    begin(&rt, &store, &mut one, false)?;
-    begin(&rt, &store, &mut two, false)?;
-    insert(&rt, alloc, &store, &mut one, 3)?;
-    if !one.busy() || !has_room(&one, 2) {
-        return Err(Fail::from(STUCK));
-    }
-    store.delete(&rt, &mut one, 0, 4)?;
-    read(&rt, &store, &mut one, 2, 5, &[2, 3])?;
-    read(&rt, &store, &mut two, 2, 5, &[2, 4])
+    read_beside_writes(&rt, alloc, &store, &mut one, &mut two)
+}
+
+/// What is answered to the commit of a checked transaction that reads the range from 20 to 29, with
+/// these keys, and inserts the key 1, while another commits one key.
+fn commit_beside<R: Abort + Wait>(
+    rt: &R,
+    alloc: Global,
+    store: &Store,
+    one: &mut Session,
+    two: &mut Session,
+    keys: &[i64],
+    other: i64,
+) -> Result<Result<Option<u64>, Stale>, Fail>
+    requires one { IsSession store.now one.old }
+    requires two { IsSession store.now two.old }
+    requires tables { length (shape_in store.now).tables ≡ 1 }
+    ensures one { IsSession store.now one.new }
+    ensures two { IsSession store.now two.new }
+{
+    begin(rt, store, one, true)?;
+    read(rt, store, one, 20, 29, keys)?;
+    insert(rt, alloc, store, one, 1)?;
+    insert_alone(rt, alloc, store, two, other)?;
+    commit(rt, store, one)
 }
 
 /// A checked transaction reads a range without rows and inserts elsewhere: a key that comes into
@@ -173,11 +313,7 @@ fn a_key_comes_into_a_range(rt: HostRuntime) -> Result<(), Fail> {
         mut one,
         mut two,
     } = open(alloc)?;
-    begin(&rt, &store, &mut one, true)?;
-    read(&rt, &store, &mut one, 20, 29, &[])?;
-    insert(&rt, alloc, &store, &mut one, 1)?;
-    insert_alone(&rt, alloc, &store, &mut two, 25)?;
-    let first = commit(&rt, &store, &mut one)?;
+    let first = commit_beside(&rt, alloc, &store, &mut one, &mut two, &[], 25)?;
     let stale = Stale {
         read: Read::Range {
             table: 0,
@@ -187,15 +323,8 @@ fn a_key_comes_into_a_range(rt: HostRuntime) -> Result<(), Fail> {
         number: 1,
     };
     assert!(rt; first == Err(stale));
-    if !one.busy() || !has_room(&one, 1) {
-        return Err(Fail::from(STUCK));
-    }
-    store.abort(&rt, &mut one);
-    begin(&rt, &store, &mut one, true)?;
-    read(&rt, &store, &mut one, 20, 29, &[25])?;
-    insert(&rt, alloc, &store, &mut one, 1)?;
-    insert_alone(&rt, alloc, &store, &mut two, 30)?;
-    let second = commit(&rt, &store, &mut one)?;
+    abort(&rt, &store, &mut one)?;
+    let second = commit_beside(&rt, alloc, &store, &mut one, &mut two, &[25], 30)?;
     assert!(rt; second == Ok(Some(3)));
     Ok(())
 }

@@ -11,6 +11,7 @@ use crate::{hand_over, has_room};
 use cell_model::{Bytes, Cell, Column, Kind, Row, Schema, TableDecl, are_named};
 use shared_store::{Built, Session, Store};
 use std::alloc::Global;
+use std::process::Abort;
 use std::sync::Wait;
 use std::test::Fail;
 
@@ -83,6 +84,29 @@ pub(crate) fn row_of(alloc: Global, store: &Store, key: i64, count: i64) -> Resu
     }
 }
 
+/// Hands a row over.
+fn hand_over_one<R: Abort + Wait>(
+    rt: &R,
+    alloc: Global,
+    store: &Store,
+    one: &mut Session,
+    two: &mut Session,
+) -> Result<(), Fail>
+    requires one { IsSession store.now one.old }
+    requires two { IsSession store.now two.old }
+    requires rests_one { IsAtRest one.old }
+    requires rests_two { IsAtRest two.old }
+    requires tables { length (shape_in store.now).tables ≡ 1 }
+{
+    let row = row_of(alloc, store, 7, 1)?;
+    let handed = hand_over(rt, store, one, two, 0, 7, row)?;
+    assert_eq!(rt; handed.committed, 1);
+    assert_eq!(rt; handed.sees, 1);
+    assert_eq!(rt; one.events(), 4);
+    assert_eq!(rt; two.events(), 2);
+    Ok(())
+}
+
 /// No clause says that there is memory.
 #[test]
 fn a_row_is_handed_over(rt: HostRuntime) -> Result<(), Fail> {
@@ -92,12 +116,32 @@ fn a_row_is_handed_over(rt: HostRuntime) -> Result<(), Fail> {
         mut one,
         mut two,
     } = open(alloc)?;
-    let row = row_of(alloc, &store, 7, 1)?;
-    let handed = hand_over(&rt, &store, &mut one, &mut two, 0, 7, row)?;
-    assert_eq!(rt; handed.committed, 1);
-    assert_eq!(rt; handed.sees, 1);
-    assert_eq!(rt; one.events(), 4);
-    assert_eq!(rt; two.events(), 2);
+    hand_over_one(&rt, alloc, &store, &mut one, &mut two)
+}
+
+/// Changes rows.
+fn change_two<R: Abort + Wait>(
+    rt: &R,
+    alloc: Global,
+    store: &Store,
+    one: &mut Session,
+    two: &mut Session,
+) -> Result<(), Fail>
+    requires one { IsSession store.now one.old }
+    requires two { IsSession store.now two.old }
+    requires rests_one { IsAtRest one.old }
+    requires rests_two { IsAtRest two.old }
+    requires free_one { IsFree one.old }
+    requires free_two { IsFree two.old }
+    requires tables { length (shape_in store.now).tables ≡ 1 }
+{
+    let first = row_of(alloc, store, 7, 1)?;
+    let second = row_of(alloc, store, 8, 1)?;
+    let changed = row_of(alloc, store, 7, 2)?;
+    let found = change_rows(rt, store, one, two, 0, first, second, changed, 8)?;
+    assert_eq!(rt; found.sees, 1);
+    assert_eq!(rt; found.own.len(), 1);
+    assert_eq!(rt; found.other.len(), 1);
     Ok(())
 }
 
@@ -110,16 +154,7 @@ fn rows_are_changed(rt: HostRuntime) -> Result<(), Fail> {
         mut one,
         mut two,
     } = open(alloc)?;
-    let first = row_of(alloc, &store, 7, 1)?;
-    let second = row_of(alloc, &store, 8, 1)?;
-    let changed = row_of(alloc, &store, 7, 2)?;
-    let found = change_rows(
-        &rt, &store, &mut one, &mut two, 0, first, second, changed, 8,
-    )?;
-    assert_eq!(rt; found.sees, 1);
-    assert_eq!(rt; found.own.len(), 1);
-    assert_eq!(rt; found.other.len(), 1);
-    Ok(())
+    change_two(&rt, alloc, &store, &mut one, &mut two)
 }
 
 /// Inserts a row and deletes it in one transaction, which is commit 1.
@@ -146,6 +181,60 @@ fn insert_and_delete<R: Wait>(
     Ok(())
 }
 
+/// A checked transaction finds no row at the key 7, which another session writes meanwhile.
+fn overtake<R: Wait>(
+    rt: &R,
+    store: &Store,
+    one: &mut Session,
+    two: &mut Session,
+    rival: Row,
+    row: Row,
+) -> Result<Tried, Fail>
+    requires one { IsSession store.now one.old }
+    requires two { IsSession store.now two.old }
+    requires rests_one { IsAtRest one.old }
+    requires rests_two { IsAtRest two.old }
+    requires tables { length (shape_in store.now).tables ≡ 1 }
+    requires rival { fits_table (shape_in store.now).tables 0 rival ≡ true }
+    requires row { fits_table (shape_in store.now).tables 0 row ≡ true }
+    ensures one { IsSession store.now one.new }
+    ensures rests { IfOk result (λ _. IsAtRest one.new) }
+{
+    if !has_room(one, 5) || !has_room(two, 5) {
+        return Err(Fail::from("no room"));
+    }
+    store.begin_checked(rt, one).unwrap();
+    insert_and_delete(rt, store, two, rival)?;
+    Ok(try_in_open(rt, store, one, 0, 7, row)?)
+}
+
+/// Inserts the row of the key 8 where a watched key has none.
+fn watch_keys<R: Abort + Wait>(
+    rt: &R,
+    alloc: Global,
+    store: &Store,
+    one: &mut Session,
+    two: &mut Session,
+) -> Result<(), Fail>
+    requires one { IsSession store.now one.old }
+    requires two { IsSession store.now two.old }
+    requires rests_one { IsAtRest one.old }
+    requires rests_two { IsAtRest two.old }
+    requires tables { length (shape_in store.now).tables ≡ 1 }
+{
+    let rival = row_of(alloc, store, 7, 1)?;
+    let row = row_of(alloc, store, 8, 1)?;
+    let copy = row.clone()?;
+    let first = overtake(rt, store, one, two, rival, copy)?;
+    assert!(rt; matches!(first, Tried::Overtaken));
+    let second = insert_unless(rt, store, one, 0, 7, &row, 1)?;
+    assert!(rt; matches!(second, Tried::Inserted(2)));
+    let third = insert_unless(rt, store, one, 0, 8, &row, 1)?;
+    assert!(rt; matches!(third, Tried::Found(_)));
+    assert_eq!(rt; one.events(), 12);
+    Ok(())
+}
+
 /// Another session writes the watched key 7 while a checked transaction is open that found no row
 /// there: its commit is refused, and the next transaction's is commit 2. Then the key 8 has a row.
 #[test]
@@ -156,20 +245,5 @@ fn a_watched_key_is_written_meanwhile(rt: HostRuntime) -> Result<(), Fail> {
         mut one,
         mut two,
     } = open(alloc)?;
-    let rival = row_of(alloc, &store, 7, 1)?;
-    let row = row_of(alloc, &store, 8, 1)?;
-    let copy = row.clone()?;
-    if !has_room(&one, 5) || !has_room(&two, 5) {
-        return Err(Fail::from("no room"));
-    }
-    store.begin_checked(&rt, &mut one).unwrap();
-    insert_and_delete(&rt, &store, &mut two, rival)?;
-    let first = try_in_open(&rt, &store, &mut one, 0, 7, copy)?;
-    assert!(rt; matches!(first, Tried::Overtaken));
-    let second = insert_unless(&rt, &store, &mut one, 0, 7, &row, 1)?;
-    assert!(rt; matches!(second, Tried::Inserted(2)));
-    let third = insert_unless(&rt, &store, &mut one, 0, 8, &row, 1)?;
-    assert!(rt; matches!(third, Tried::Found(_)));
-    assert_eq!(rt; one.events(), 12);
-    Ok(())
+    watch_keys(&rt, alloc, &store, &mut one, &mut two)
 }

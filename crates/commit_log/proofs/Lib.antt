@@ -1,0 +1,4 @@
+mod Appends
+mod FileFronts
+mod Groups
+pub mod Watching

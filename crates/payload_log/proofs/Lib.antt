@@ -1,0 +1,3 @@
+mod Gates
+pub mod Records
+mod Steps
