@@ -111,7 +111,7 @@ fn begins_at(all: &[u8], from: usize, bytes: &[u8]) -> bool {
 /// A row for each text.
 fn rows_of(alloc: Global, texts: &[&str]) -> Result<Vec<Row>, AllocError> {
     let mut rows = Vec::new(alloc);
-    for &text in texts {
+    for text in texts {
         rows.push(row(alloc, text)?)?;
     }
     Ok(rows)
