@@ -7,6 +7,7 @@ use cell_model::{Buffers, Bytes, Cell, Column, Kind, Row, Schema, are_named};
 use dict_gather::{Dicts, gather_dict};
 use std::alloc::{AllocError, Global};
 use std::test::Fail;
+use std::thread::Threads;
 
 #[test]
 fn four_texts_are_gathered_by_a_dictionary(rt: HostRuntime) -> Result<(), Fail> {
@@ -21,7 +22,13 @@ fn four_texts_are_gathered_by_a_dictionary(rt: HostRuntime) -> Result<(), Fail> 
     assert!(rt; is(values, 2, "ab".as_bytes()));
     let indices = indices_of(&dicts);
     assert!(rt; is(indices, 0, &[0b1011]));
-    assert!(rt; is(indices, 1, &[1, 0, 0, 0, 0, 0, 0, 0, 0, 0, 0, 0, 1, 0, 0, 0]));
+    assert!(rt;
+        is(
+            indices,
+            1,
+            &[1, 0, 0, 0, 0, 0, 0, 0, 0, 0, 0, 0, 1, 0, 0, 0]
+        )
+    );
     Ok(())
 }
 
@@ -137,7 +144,7 @@ fn row(alloc: Global, text: &str) -> Result<Row, AllocError> {
     Ok(Row::from(vec![in alloc; Cell::Num(0), cell]?))
 }
 
-fn gathered(rt: &HostRuntime, alloc: Global, rows: &[Row]) -> Result<Dicts, Fail> {
+fn gathered<R: Threads + Sync>(rt: &R, alloc: Global, rows: &[Row]) -> Result<Dicts, Fail> {
     let schema = schema(alloc)?;
     let few = rows.len() <= 32_768;
     if !few || !all_fit(&schema, rows) {
@@ -146,8 +153,8 @@ fn gathered(rt: &HostRuntime, alloc: Global, rows: &[Row]) -> Result<Dicts, Fail
     Ok(by_dictionaries(rt, alloc, &schema, rows)?)
 }
 
-fn by_dictionaries(
-    rt: &HostRuntime,
+fn by_dictionaries<R: Threads + Sync>(
+    rt: &R,
     alloc: Global,
     schema: &Schema,
     rows: &[Row],
