@@ -1,0 +1,8 @@
+pub mod Columns
+pub mod Dicts
+pub mod Encoded
+pub mod Heads
+pub mod Places
+pub mod Starts
+pub mod Values
+pub mod Walks

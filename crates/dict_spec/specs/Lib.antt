@@ -1,0 +1,5 @@
+pub mod Dictionaries
+pub mod Batches
+pub mod Metadata
+pub mod Streams
+pub mod Examples

@@ -1,0 +1,4 @@
+use Rattle.dict_trials.proofs.streams.by_dictionaries.Goals as goal
+
+pub gather_dict-requires : goal.gather_dict-requires
+gather_dict-requires c = (c.args.schema.now, (c.args.rows.now, c.in_ok-batch.ensures))

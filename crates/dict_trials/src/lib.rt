@@ -1,0 +1,5 @@
+//! Tests of gathering by dictionaries.
+#![tactic(auto)]
+
+#[cfg(test)]
+mod streams;
