@@ -1,2 +1,4 @@
 pub mod Steps
 pub mod Histories
+pub mod Sorted
+pub mod Shares

@@ -1,9 +1,24 @@
 //! Laws of the commits of logs: each function does nothing, and its contract is one of them.
 ghost use Rattle.run_laws.specs.Commits.Laws.{HistoriesAreTheMachines, MachinesLead};
+ghost use Rattle.run_laws.specs.Commits.Shares.{HistoriesGoOn, NumbersGoOn, SharesAreTheCommits};
+ghost use Rattle.run_laws.specs.Commits.Shares.{SortedSharesAreTheCommits};
 
 /// The machine goes with every lawful log, and its history behind it is that of the log's commits,
 /// whose numbers go on behind those of the commits that the core began with.
 pub fn histories_are_the_machines()
     ensures leads { MachinesLead }
     ensures history { HistoriesAreTheMachines }
+{}
+
+/// Behind more events the history has their commits more, whose numbers go on.
+pub fn histories_go_on()
+    ensures history { HistoriesGoOn }
+    ensures numbers { NumbersGoOn }
+{}
+
+/// What all sessions committed in a part of a log are its commits, and sorted by number they are so
+/// in its order.
+pub fn shares_are_the_commits()
+    ensures shares { SharesAreTheCommits }
+    ensures sorted { SortedSharesAreTheCommits }
 {}

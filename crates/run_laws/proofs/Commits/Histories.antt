@@ -59,8 +59,8 @@ writes_apart q front last apart =
     go true e = absurd (apart (grind (arith, nat_tests)))
     go false e = refl
 
--- Two numbers are the same or not.
-same_or_not : (a b : ℕ) → (a ≡ b) ⊎ (a ≢ b)
+-- two numbers are the same or not
+pub same_or_not : (a b : ℕ) → (a ≡ b) ⊎ (a ≢ b)
 same_or_not a b = go (a == b) refl
   where
     go : (t : Bool) → (a == b) ≡ t → (a ≡ b) ⊎ (a ≢ b)
@@ -84,8 +84,8 @@ pub record Agrees (first : History) (front : List Occurrence) (m : IsolationMach
 pub agrees_first : (first : History) → Agrees first [] (opening_from first)
 agrees_first first = record { sane = sane-opening first; own = λ q. refl; history = sym (append-nil first); numbers = refl }
 
--- The write sets of a list of commits are as many.
-length_sets : (cs : List Commit) → length (write_sets cs) ≡ length cs
+-- the write sets of a list of commits are as many
+pub length_sets : (cs : List Commit) → length (write_sets cs) ≡ length cs
 length_sets [] = refl
 length_sets (c ∷ cs) = ap (λ (n : ℕ). suc n) (length_sets cs)
 
