@@ -2,3 +2,4 @@ pub mod Steps
 pub mod Histories
 pub mod Sorted
 pub mod Shares
+pub mod Numbers

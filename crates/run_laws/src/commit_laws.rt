@@ -1,5 +1,6 @@
 //! Laws of the commits of logs: each function does nothing, and its contract is one of them.
 ghost use Rattle.run_laws.specs.Commits.Laws.{HistoriesAreTheMachines, MachinesLead};
+ghost use Rattle.run_laws.specs.Commits.Numbers.{NumbersAreWithin};
 ghost use Rattle.run_laws.specs.Commits.Shares.{HistoriesGoOn, NumbersGoOn, SharesAreTheCommits};
 ghost use Rattle.run_laws.specs.Commits.Shares.{SortedSharesAreTheCommits};
 
@@ -21,4 +22,10 @@ pub fn histories_go_on()
 pub fn shares_are_the_commits()
     ensures shares { SharesAreTheCommits }
     ensures sorted { SortedSharesAreTheCommits }
+{}
+
+/// Each commit number that a run tells in its first rounds is one of the history behind these, and
+/// behind more of them.
+pub fn numbers_are_within_the_history()
+    ensures { NumbersAreWithin }
 {}

@@ -1,10 +1,15 @@
 -- What one event is to the writes and commits of its session, and to the machine.
-use Rattle.std.proofs.Common.{◌≡◌, ◌≢◌, ◌⊎◌, inl, inr, ℕ, ◌+◌, Bool, true, false, cond, eqb, not, ◌==◌, List, [], ◌∷◌, ◌++◌, map, length, Option, None, Some, Result, Ok, Err, option_map, refl, sym, ap, ◌∙◌, subst, arith, append-nil}
+use Rattle.std.proofs.Common.{◌≡◌, ◌≢◌, ◌⊎◌, inl, inr, ℕ, ◌+◌, ◌≤◌, Bool, true, false, cond, eqb, not, ◌==◌, List, [], ◌∷◌, ◌++◌, map, length, Option, None, Some, Result, Ok, Err, option_map, refl, sym, ap, ◌∙◌, subst, arith, append-nil}
 use Rattle.std.specs.Prelude.{IfSome, ℤ}
 use Rattle.std.specs.BTreeMap.{insert_entry}
 use Rattle.std.specs.List.{range_with_len}
 use Rattle.std.specs.Option.{option_map_or, option_or}
 use Rattle.std.proofs.lemmas.Bool.Decides.{nat_tests}
+use Rattle.std.proofs.lemmas.List.{length_push}
+use Rattle.block_spec.specs.declared.phase.Phase.{Phase}
+use Rattle.block_spec.specs.declared.phase.Phase.TheVariants.{Imaged, Loose, Sealed}
+use Rattle.block_spec.specs.declared.phase.SealFault.{SealFault}
+use Rattle.block_spec.specs.Bodies.{Body, is_imaged, rows_of, seal_fault}
 use Rattle.cell_model.specs.declared.cell.Cell.{Cell}
 use Rattle.core_laws.proofs.Events.Plain.{plain}
 use Rattle.core_laws.specs.Events.Laws.{IsStep, IsTold, command_in, outcome_of_fault}
@@ -16,8 +21,8 @@ use Rattle.event_spec.specs.declared.reply.WriteFault.{WriteFault}
 use Rattle.event_spec.specs.declared.reply.WriteFault.TheVariants as fault
 use Rattle.event_spec.specs.Effects.{CoreEvent, change_judged, insert_judged, range_found, stale_in}
 use Rattle.event_spec.specs.Lawful.{reads_handed, session_of}
-use Rattle.event_spec.specs.Parts.{Parts, Shape}
-use Rattle.event_spec.specs.Replies.{CoreReply, in_key_order, reply_to, reply_to_commit, reply_to_write}
+use Rattle.event_spec.specs.Parts.{Parts, Shape, body_at, is_head}
+use Rattle.event_spec.specs.Replies.{CoreReply, in_key_order, reply_to, reply_to_commit, reply_to_image, reply_to_seal, reply_to_write, rows_read}
 use Rattle.isolation_spec.specs.Contents.{History, WriteSet, key_of, place_at, place_cmp, place_of}
 use Rattle.isolation_spec.specs.declared.command.Act.{Act}
 use Rattle.isolation_spec.specs.declared.command.Act.TheVariants as act
@@ -49,6 +54,11 @@ abbrev pub OwnIs : WriteSet → Option Transaction → Type 0
 OwnIs own None = own ≡ []
 OwnIs own (Some t) = t.own ≡ own
 
+-- the number that a reply to a commit tells
+abbrev pub number_told : CoreReply → Option ℕ
+number_told (reply.Committed number) = number
+number_told _ = None
+
 -- what a session asks by an act
 abbrev asks : ℕ → Act → Request
 asks q what = record { session = q; act = what }
@@ -69,6 +79,7 @@ module _ (m next : IsolationMachine) (sane : Sane m) (q : ℕ) where
     pub others : (r : ℕ) → r ≢ q → transaction_of r next ≡ transaction_of r m
     pub history : next.history ≡ m.history ++ write_sets (commit_by own e told)
     pub numbers : map (λ (c : Commit). c.number) (commit_by own e told) ≡ range_with_len (length m.history + 1) (length (commit_by own e told))
+    pub shown : (n : ℕ) → number_told told ≡ Some n → n ≤ length next.history
 
   -- ---- changes of the machine
 
@@ -115,14 +126,15 @@ module _ (m next : IsolationMachine) (sane : Sane m) (q : ℕ) where
 
   -- An event that leaves the machine, what was written and what was committed follows it.
   pub stays : (own : WriteSet) (e : CoreEvent) (told : CoreReply) → OwnIs own (transaction_of q m) → next ≡ m
-      → own_written own e told ≡ own → commit_by own e told ≡ [] → Follows own e told
-  stays own e told was same keeps none = record {
+      → own_written own e told ≡ own → commit_by own e told ≡ [] → number_told told ≡ None → Follows own e told
+  stays own e told was same keeps none untold = record {
     sane_next = subst Sane (sym same) sane;
     own_is = subst (λ (w : WriteSet). OwnIs w (transaction_of q next)) (sym keeps) (subst (λ (n : IsolationMachine). OwnIs own (transaction_of q n)) (sym same) was);
     others = λ r apart. ap (transaction_of r) same;
     history = ap (λ (n : IsolationMachine). n.history) same ∙ sym (append-nil m.history)
         ∙ ap (λ (cs : List Commit). m.history ++ write_sets cs) (sym none);
     numbers = subst (λ (cs : List Commit). map (λ (c : Commit). c.number) cs ≡ range_with_len (length m.history + 1) (length cs)) (sym none) refl;
+    shown = λ n is. absurd (none_some n (sym untold ∙ is));
   }
 
   -- ---- writes
@@ -166,6 +178,7 @@ module _ (m next : IsolationMachine) (sane : Sane m) (q : ℕ) where
       others = change_others asked said.Accepted (writes c);
       history = ap (λ (n : IsolationMachine). n.history) c.is ∙ sym (append-nil m.history) ∙ ap (λ (cs : List Commit). m.history ++ write_sets cs) (sym (never (reply.Written slot)));
       numbers = subst (λ (cs : List Commit). map (λ (k : Commit). k.number) cs ≡ range_with_len (length m.history + 1) (length cs)) (sym (never (reply.Written slot))) refl;
+      shown = λ n is. absurd (none_some n is);
     }
       where
         same : c.session ≡ q
@@ -196,9 +209,9 @@ module _ (m next : IsolationMachine) (sane : Sane m) (q : ℕ) where
     -- A write, refused memory or not, follows.
     pub write_follows : (refused : Bool) (judged : Result ℕ WriteFault) → IsTold m None (asks q what) (cond refused reply.Memory (reply_to_write judged)) next
         → Follows own e (cond refused reply.Memory (reply_to_write judged))
-    write_follows true judged h = stays own e reply.Memory was h.2 (enters reply.Memory) (never reply.Memory)
+    write_follows true judged h = stays own e reply.Memory was h.2 (enters reply.Memory) (never reply.Memory) refl
     write_follows false (Ok slot) h = accepts_by slot (change_by what asked (Answered answer.Accepted) said.Accepted requested refl h)
-    write_follows false (Err why) h = stays own e (reply.Refused why) was (refused_by why h) (enters (reply.Refused why) ∙ unentered why) (never (reply.Refused why))
+    write_follows false (Err why) h = stays own e (reply.Refused why) was (refused_by why h) (enters (reply.Refused why) ∙ unentered why) (never (reply.Refused why)) refl
 
   -- ---- a begin, an abort and a commit
 
@@ -219,6 +232,7 @@ module _ (m next : IsolationMachine) (sane : Sane m) (q : ℕ) where
     others = change_others (command.Begin false) (said.At number) (opens c);
     history = ap (λ (n : IsolationMachine). n.history) c.is ∙ sym (append-nil m.history);
     numbers = refl;
+    shown = λ n is. absurd (none_some n is);
   }
     where
       same : c.session ≡ q
@@ -252,6 +266,7 @@ module _ (m next : IsolationMachine) (sane : Sane m) (q : ℕ) where
     others = change_others command.Abort said.Aborted (ends c);
     history = ap (λ (n : IsolationMachine). n.history) c.is ∙ sym (append-nil m.history);
     numbers = refl;
+    shown = λ n is. absurd (none_some n is);
   }
     where
       same : c.session ≡ q
@@ -271,18 +286,19 @@ module _ (m next : IsolationMachine) (sane : Sane m) (q : ℕ) where
       at : transaction_of q m ≡ Some c.t
       at = ap (λ (s : ℕ). transaction_of s m) (sym same) ∙ c.at
 
-      nothing : own ≡ [] → Follows own (event.Commit handed reads) (reply.Committed number)
-      nothing none = subst (λ (w : WriteSet). Follows w (event.Commit handed reads) (reply.Committed number)) (sym none) (record {
+      nothing : own ≡ [] → number ≡ None → Follows own (event.Commit handed reads) (reply.Committed number)
+      nothing none untold = subst (λ (w : WriteSet). Follows w (event.Commit handed reads) (reply.Committed number)) (sym none) (record {
         sane_next = change_sane command.Commit (said.Committed number) (ends c);
         own_is = subst (OwnIs []) (sym (ap (transaction_of q) (c.is ∙ ap (λ (s : ℕ). without s m) same) ∙ none_behind)) refl;
         others = change_others command.Commit (said.Committed number) (ends c);
         history = ap (λ (n : IsolationMachine). n.history) c.is ∙ sym (append-nil m.history);
         numbers = refl;
+        shown = λ n is. absurd (none_some n (sym untold ∙ is));
       })
 
       by : (said.Committed number ≡ said.Aborted) ⊎ ((said.Committed number ≡ said.Committed None) × (c.t.own ≡ [])) → Follows own (event.Commit handed reads) (reply.Committed number)
       by (inl is) = absurd (true_false (ap is_commit is))
-      by (inr is) = nothing (sym (subst (OwnIs own) at was) ∙ is.1)
+      by (inr is) = nothing (sym (subst (OwnIs own) at was) ∙ is.1) (ap commit_in is.0)
   commit_follows own handed reads number was (commits c) =
       subst (λ (o : Option ℕ). Follows own (event.Commit handed reads) (reply.Committed o)) (sym told)
       (subst (λ (w : WriteSet). Follows w (event.Commit handed reads) (reply.Committed (Some (length m.history + 1)))) (sym whole) numbered)
@@ -306,6 +322,10 @@ module _ (m next : IsolationMachine) (sane : Sane m) (q : ℕ) where
         others = change_others command.Commit (said.Committed number) (commits c);
         history = ap (λ (n : IsolationMachine). n.history) c.is ∙ ap (λ (w : WriteSet). m.history ++ w ∷ []) c.wrote.2;
         numbers = refl;
+        shown = λ n is.
+            let same : length m.history + 1 ≡ n = let both : Some (length m.history + 1) ≡ Some n = is in cc in
+            let long = ap (λ (k : IsolationMachine). length k.history) c.is ∙ length_push m.history c.t.own in
+            omega (arith, same, long);
       }
 
 -- ---- every event
@@ -314,6 +334,28 @@ module _ (shape : Shape) (parts : Parts) (m next : IsolationMachine) (sane : San
   -- the reply to an event, which may have been refused memory
   abbrev told_to : CoreEvent → Bool → CoreReply
   told_to e refused = cond refused reply.Memory (reply_to shape parts e)
+
+  -- A reply that tells no number tells none where memory was refused.
+  untold_by : (refused : Bool) (told : CoreReply) → number_told told ≡ None → number_told (cond refused reply.Memory told) ≡ None
+  untold_by true told is = refl
+  untold_by false told is = is
+
+  -- Reads, seals and images are told none.
+  read_untold : (handed : OwnTransaction) (table block : ℕ) → number_told (reply_to shape parts (event.Read handed table block)) ≡ None
+  read_untold handed table block = go (is_imaged (body_at shape parts table block).phase)
+    where
+      go : (b : Bool) → number_told (cond b (reply.Shared (rows_of (body_at shape parts table block))) (reply.Rows (rows_read shape parts handed table block))) ≡ None
+      go true = refl
+      go false = refl
+
+  seal_untold : (why : Option SealFault) (last : ℕ) → number_told (reply_to_seal why last) ≡ None
+  seal_untold None last = refl
+  seal_untold (Some why) last = refl
+
+  image_untold : (phase : Phase) (body : Body) → number_told (reply_to_image phase body) ≡ None
+  image_untold Loose body = refl
+  image_untold (Sealed stamp) body = refl
+  image_untold (Imaged stamp) body = refl
 
   -- A step of a session's command, whose session is this one.
   of_session : (session : ℕ) (what : Act) (reads : Option ReadSet) (told : CoreReply) → session ≡ q → IsTold m reads (asks session what) told next → IsTold m reads (asks q what) told next
@@ -328,15 +370,15 @@ module _ (shape : Shape) (parts : Parts) (m next : IsolationMachine) (sane : San
 
   get_follows : (handed : OwnKey) (table : ℕ) (key : ℤ) (refused : Bool) → IsTold m None (asks q (act.Get table key)) (told_to (event.Get handed table key) refused) next
       → Follows m next sane q own (event.Get handed table key) (told_to (event.Get handed table key) refused)
-  get_follows handed table key true h = stays m next sane q own (event.Get handed table key) reply.Memory was h.2 refl refl
-  get_follows handed table key false h = stays m next sane q own (event.Get handed table key) (reply_to shape parts (event.Get handed table key)) was (get_stays table key _ h) refl refl
+  get_follows handed table key true h = stays m next sane q own (event.Get handed table key) reply.Memory was h.2 refl refl refl
+  get_follows handed table key false h = stays m next sane q own (event.Get handed table key) (reply_to shape parts (event.Get handed table key)) was (get_stays table key _ h) refl refl refl
 
   range_follows : (handed : OwnTransaction) (table : ℕ) (low high : ℤ) (refused : Bool) → IsTold m None (asks q (act.Range table low high)) (told_to (event.Range handed table low high) refused) next
       → Follows m next sane q own (event.Range handed table low high) (told_to (event.Range handed table low high) refused)
-  range_follows handed table low high true h = stays m next sane q own (event.Range handed table low high) reply.Memory was h.2 refl refl
+  range_follows handed table low high true h = stays m next sane q own (event.Range handed table low high) reply.Memory was h.2 refl refl refl
   range_follows handed table low high false h = stays m next sane q own (event.Range handed table low high) (reply_to shape parts (event.Range handed table low high)) was
       (stays_by m next sane q (command.Range table low high) (said.Scanned rows) refl refl refl
-      (change_by m next sane q (act.Range table low high) (command.Range table low high) (Answered (answer.Rows rows)) (said.Scanned rows) refl refl h)) refl refl
+      (change_by m next sane q (act.Range table low high) (command.Range table low high) (Answered (answer.Rows rows)) (said.Scanned rows) refl refl h)) refl refl refl
     where
       rows : List (List Cell)
       rows = in_key_order table (range_found shape parts handed table low high)
@@ -373,7 +415,7 @@ module _ (shape : Shape) (parts : Parts) (m next : IsolationMachine) (sane : San
       go None h = commit_follows m next sane q own handed reads _ was
           (change_by m next sane q act.Commit command.Commit (Answered (answer.Committed _)) (said.Committed _) refl refl
           (plain m (asks q act.Commit) ∙ committed_is m next reads q _ h))
-      go (Some stale) h = stays m next sane q own (event.Commit handed reads) (reply.Stale stale.0 stale.1) was (stale_stays m next reads q stale.0 stale.1 h) refl (untold own stale.0 stale.1)
+      go (Some stale) h = stays m next sane q own (event.Commit handed reads) (reply.Stale stale.0 stale.1) was (stale_stays m next reads q stale.0 stale.1 h) refl (untold own stale.0 stale.1) refl
 
   -- An event that stands under its session follows.
   pub event_follows : (e : CoreEvent) (refused : Bool) → IfSome (session_of e) (λ session. session ≡ q)
@@ -389,15 +431,15 @@ module _ (shape : Shape) (parts : Parts) (m next : IsolationMachine) (sane : San
   event_follows (event.Delete handed table key) refused same h =
       write_follows m next sane q own (event.Delete handed table key) (act.Delete table key) (command.Delete table key) (place_at table key) None was refl refl (λ told. refl) (λ told. refl)
       refused (change_judged shape parts handed table key) (of_session handed.session (act.Delete table key) None _ same h)
-  event_follows (event.Read handed table block) refused same h = stays m next sane q own (event.Read handed table block) (told_to (event.Read handed table block) refused) was h refl refl
+  event_follows (event.Read handed table block) refused same h = stays m next sane q own (event.Read handed table block) (told_to (event.Read handed table block) refused) was h refl refl (untold_by refused (reply_to shape parts (event.Read handed table block)) (read_untold handed table block))
   event_follows (event.Range handed table low high) refused same h = range_follows handed table low high refused (of_session handed.session (act.Range table low high) None _ same h)
   event_follows (event.Commit handed reads) refused same h = commit_by_told handed reads refused same h
   event_follows (event.Abort handed) refused same h = abort_by handed refused same h
-  event_follows event.Oldest refused same h = stays m next sane q own event.Oldest (told_to event.Oldest refused) was h refl refl
-  event_follows (event.Observe table block) refused same h = stays m next sane q own (event.Observe table block) (told_to (event.Observe table block) refused) was h refl refl
-  event_follows (event.Prune table block oldest) refused same h = stays m next sane q own (event.Prune table block oldest) (told_to (event.Prune table block oldest) refused) was h refl refl
-  event_follows (event.Look table block) refused same h = stays m next sane q own (event.Look table block) (told_to (event.Look table block) refused) was h refl refl
-  event_follows (event.Move table moves) refused same h = stays m next sane q own (event.Move table moves) (told_to (event.Move table moves) refused) was h refl refl
-  event_follows (event.Seal table block) refused same h = stays m next sane q own (event.Seal table block) (told_to (event.Seal table block) refused) was h refl refl
-  event_follows (event.Image table block image) refused same h = stays m next sane q own (event.Image table block image) (told_to (event.Image table block image) refused) was h refl refl
-  event_follows (event.Thaw table block) refused same h = stays m next sane q own (event.Thaw table block) (told_to (event.Thaw table block) refused) was h refl refl
+  event_follows event.Oldest refused same h = stays m next sane q own event.Oldest (told_to event.Oldest refused) was h refl refl (untold_by refused (reply_to shape parts event.Oldest) refl)
+  event_follows (event.Observe table block) refused same h = stays m next sane q own (event.Observe table block) (told_to (event.Observe table block) refused) was h refl refl (untold_by refused (reply_to shape parts (event.Observe table block)) refl)
+  event_follows (event.Prune table block oldest) refused same h = stays m next sane q own (event.Prune table block oldest) (told_to (event.Prune table block oldest) refused) was h refl refl (untold_by refused (reply_to shape parts (event.Prune table block oldest)) refl)
+  event_follows (event.Look table block) refused same h = stays m next sane q own (event.Look table block) (told_to (event.Look table block) refused) was h refl refl (untold_by refused (reply_to shape parts (event.Look table block)) refl)
+  event_follows (event.Move table moves) refused same h = stays m next sane q own (event.Move table moves) (told_to (event.Move table moves) refused) was h refl refl (untold_by refused (reply_to shape parts (event.Move table moves)) refl)
+  event_follows (event.Seal table block) refused same h = stays m next sane q own (event.Seal table block) (told_to (event.Seal table block) refused) was h refl refl (untold_by refused (reply_to shape parts (event.Seal table block)) (seal_untold (seal_fault (is_head shape parts table block) (body_at shape parts table block)) (body_at shape parts table block).last))
+  event_follows (event.Image table block image) refused same h = stays m next sane q own (event.Image table block image) (told_to (event.Image table block image) refused) was h refl refl (untold_by refused (reply_to shape parts (event.Image table block image)) (image_untold (body_at shape parts table block).phase (body_at shape parts table block)))
+  event_follows (event.Thaw table block) refused same h = stays m next sane q own (event.Thaw table block) (told_to (event.Thaw table block) refused) was h refl refl (untold_by refused (reply_to shape parts (event.Thaw table block)) refl)
