@@ -1,6 +1,7 @@
 //! Laws of the commits of logs: each function does nothing, and its contract is one of them.
 ghost use Rattle.run_laws.specs.Commits.Laws.{HistoriesAreTheMachines, MachinesLead};
 ghost use Rattle.run_laws.specs.Commits.Numbers.{NumbersAreWithin};
+ghost use Rattle.run_laws.specs.Commits.Rounds.{HistoriesAreOfTheTables, RoundsGoOnByTheirCommits};
 ghost use Rattle.run_laws.specs.Commits.Shares.{HistoriesGoOn, NumbersGoOn, SharesAreTheCommits};
 ghost use Rattle.run_laws.specs.Commits.Shares.{SortedSharesAreTheCommits};
 
@@ -28,4 +29,11 @@ pub fn shares_are_the_commits()
 /// behind more of them.
 pub fn numbers_are_within_the_history()
     ensures { NumbersAreWithin }
+{}
+
+/// The last round of a run goes on by what its sessions committed, sorted by number, and all commits
+/// are of its tables.
+pub fn rounds_go_on_by_their_commits()
+    ensures tables { HistoriesAreOfTheTables }
+    ensures rounds { RoundsGoOnByTheirCommits }
 {}

@@ -202,12 +202,12 @@ last_of (x ∷ xs) = go (last_of xs)
     go (inr some) = inr (x ∷ some.0, some.1, ap (λ (es : List Occurrence). x ∷ es) some.2)
 
 -- What all of two parts have, the second has.
-all_behind : (P : Occurrence → Type 0) (xs ys : List Occurrence) → All P (xs ++ ys) → All P ys
+pub all_behind : (P : Occurrence → Type 0) (xs ys : List Occurrence) → All P (xs ++ ys) → All P ys
 all_behind P [] ys all = all
 all_behind P (x ∷ xs) ys all = all_behind P xs ys (All-tail P x (xs ++ ys) all)
 
 -- So has the first.
-all_front : (P : Occurrence → Type 0) (xs ys : List Occurrence) → All P (xs ++ ys) → All P xs
+pub all_front : (P : Occurrence → Type 0) (xs ys : List Occurrence) → All P (xs ++ ys) → All P xs
 all_front P [] ys all = All-nil P
 all_front P (x ∷ xs) ys all = All-cons P x xs (All-head P x (xs ++ ys) all) (all_front P xs ys (All-tail P x (xs ++ ys) all))
 

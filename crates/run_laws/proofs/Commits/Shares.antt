@@ -70,18 +70,18 @@ none_of A [] none = refl
 none_of A (q ∷ qs) none = ap (λ (cs : List Commit). cs ++ flat_map A qs) (none q) ∙ none_of A qs none
 
 -- What gives the same for each number gives the same.
-same_of : (A B : ℕ → List Commit) (qs : List ℕ) → ((q : ℕ) → A q ≡ B q) → flat_map A qs ≡ flat_map B qs
+pub same_of : (A B : ℕ → List Commit) (qs : List ℕ) → ((q : ℕ) → A q ≡ B q) → flat_map A qs ≡ flat_map B qs
 same_of A B [] same = refl
 same_of A B (q ∷ qs) same = ap (λ (cs : List Commit). cs ++ flat_map A qs) (same q) ∙ ap (λ (cs : List Commit). B q ++ cs) (same_of A B qs same)
 
 -- ---- a session's commits
 
 -- the commit that an event makes of what its session wrote, if it makes one
-abbrev made_by : List Occurrence → Occurrence → ℕ → List Commit
+abbrev pub made_by : List Occurrence → Occurrence → ℕ → List Commit
 made_by front o q = commit_by (writes_of (under q front)).own o.event o.reply
 
 -- A session's commits along a part of a log.
-abbrev along_of : ℕ → List Occurrence → List Occurrence → List Commit
+abbrev pub along_of : ℕ → List Occurrence → List Occurrence → List Commit
 along_of q front [] = []
 along_of q front (o ∷ rest) = cond (o.session == q) (made_by front o q) [] ++ along_of q (front ++ o ∷ []) rest
 
@@ -110,7 +110,7 @@ commits_are q front (o ∷ rest) =
     ∙ append_assoc (commits_of (under q front)) (cond (o.session == q) (made_by front o q) []) (along_of q (front ++ o ∷ []) rest)
 
 -- So it is what it committed since.
-since_is : (q : ℕ) (front made : List Occurrence) → commits_since front made q ≡ along_of q front made
+pub since_is : (q : ℕ) (front made : List Occurrence) → commits_since front made q ≡ along_of q front made
 since_is q front made =
     ap (drop (length (commits_of (under q front)))) (commits_are q front made)
     ∙ drop-append_seam (commits_of (under q front)) (along_of q front made)
