@@ -1,29 +1,26 @@
 -- The machine's history along a log is that of the log's commits.
-use Rattle.std.proofs.Common.{◌≡◌, ◌≢◌, ◌⊎◌, inl, inr, ℕ, suc, ◌+◌, Bool, true, false, cond, ◌==◌, List, [], ◌∷◌, ◌++◌, map, length, Option, refl, sym, ap, ◌∙◌, subst, arith, append_assoc, append-nil, length-append}
-use Rattle.std.specs.Prelude.{IfSome}
-use Rattle.std.specs.List.{filter, range_with_len}
+use Rattle.std.proofs.Common.{◌≡◌, ◌≢◌, ◌⊎◌, inl, inr, ℕ, suc, ◌+◌, Bool, true, false, cond, ◌==◌, List, [], ◌∷◌, ◌++◌, map, length, refl, sym, ap, ◌∙◌, subst, arith, append_assoc, append-nil, length-append}
+use Rattle.std.specs.List.{range_with_len}
 use Rattle.std.proofs.lemmas.Bool.Decides.{nat_tests}
 use Rattle.std.proofs.lemmas.List.{map-append}
 use Rattle.std.proofs.lemmas.List.Elements.{filter-append}
 use Rattle.std.proofs.lemmas.List.Sums.{fold-append}
 use Rattle.core_laws.proofs.Logs.Logs.{replies_as_the_machine}
-use Rattle.core_laws.specs.Events.Laws.{IsStep, command_in}
 use Rattle.core_laws.specs.Logs.Laws.{IsAnsweredFrom}
-use Rattle.event_spec.specs.Lawful.{reads_handed, session_of}
 use Rattle.event_spec.specs.Parts.{Parts, Shape}
-use Rattle.event_spec.specs.Replay.{after, opening, reply_after}
+use Rattle.event_spec.specs.Replay.{after, opening}
 use Rattle.isolation_spec.specs.Contents.{History}
 use Rattle.isolation_spec.specs.Machine.{IsolationMachine, opening_from, transaction_of}
 use Rattle.timeline_laws.proofs.Machine.{Sane, sane-opening}
 use Rattle.timeline_laws.proofs.Ranges.{range-append}
 use Rattle.run_spec.specs.declared.commit.Commit.{Commit}
 use Rattle.run_spec.specs.Commits.{SessionWrites, commit_by, commits_along, history_behind, write_sets, writes_behind, writes_of}
-use Rattle.run_spec.specs.Occurrences.{Logged, Occurrence, occurrence_of, occurrences_from, occurrences_in, under}
+use Rattle.run_spec.specs.Occurrences.{Logged, Occurrence, occurrence_of, occurrences_from, under}
 use Rattle.run_laws.proofs.Calls.Along.{and_first, and_second, named}
 use Rattle.run_laws.proofs.Commits.Steps.{Follows, OwnIs, event_follows}
 use Rattle.run_laws.specs.Calls.Along.{are_named}
 use Rattle.run_laws.specs.Calls.Asking.{is_of}
-use Rattle.run_laws.specs.Commits.Laws.{HistoriesAreTheMachines, IsHistoryOf, LeadsTo, MachinesLead}
+use Rattle.run_laws.specs.Commits.Laws.{HistoriesAreTheMachines, LeadsTo, MachinesLead}
 
 -- ---- lists of commits
 

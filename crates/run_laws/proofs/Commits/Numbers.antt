@@ -1,5 +1,5 @@
 -- Each number that a run prints is one of the history behind its round.
-use Rattle.std.proofs.Common.{◌≡◌, ◌⊎◌, inl, inr, ℕ, zero, suc, ◌+◌, ◌≤◌, Bool, true, false, cond, ◌==◌, List, [], ◌∷◌, ◌++◌, map, length, take, drop, Option, None, Some, refl, sym, ap, ◌∙◌, subst, arith, append_assoc, append-nil, length-append}
+use Rattle.std.proofs.Common.{◌≡◌, ◌⊎◌, inl, inr, ℕ, zero, suc, ◌≤◌, Bool, true, false, cond, ◌==◌, List, [], ◌∷◌, ◌++◌, length, take, drop, Option, None, Some, refl, sym, ap, ◌∙◌, subst, arith, append_assoc, length-append}
 use Rattle.std.specs.Prelude.{All, option_and_then}
 use Rattle.std.specs.List.{flat_map}
 use Rattle.std.proofs.lemmas.Grind.{flat_map-append}
@@ -18,7 +18,6 @@ use Rattle.isolation_spec.specs.Machine.{IsolationMachine, opening_from}
 use Rattle.outcome_spec.specs.Entries.{commit_in}
 use Rattle.outcome_spec.specs.Forms.{is_silent, is_worker}
 use Rattle.workload_spec.specs.declared.command.Command.{Command}
-use Rattle.workload_spec.specs.declared.command.Command.TheVariants as command
 use Rattle.workload_spec.specs.declared.reply.Said.{Said}
 use Rattle.workload_spec.specs.declared.reply.Said.TheVariants as said
 use Rattle.workload_spec.specs.declared.script.Script.{Script}
@@ -26,7 +25,7 @@ use Rattle.run_spec.specs.Calls.{AreCalls, Call, IsCall, line_to}
 use Rattle.run_spec.specs.Commits.{commits_along, history_behind, write_sets}
 use Rattle.run_spec.specs.Histories.{history_at}
 use Rattle.run_spec.specs.Occurrences.{Logged, Occurrence, occurrence_of, occurrences_from, occurrences_in, under}
-use Rattle.run_spec.specs.Ran.{AreRounds, IsDone, Ran, RoundRun, Share, session_of, shape_of}
+use Rattle.run_spec.specs.Ran.{AreRounds, IsDone, RoundRun, Share, session_of, shape_of}
 use Rattle.run_spec.specs.Told.{told_by}
 use Rattle.run_spec.specs.Traces.{as_log}
 use Rattle.run_laws.proofs.Calls.Along.{and_first, and_second, named}

@@ -1,5 +1,5 @@
 -- A round of a run goes on by what its sessions committed.
-use Rattle.std.proofs.Common.{◌≡◌, ◌≢◌, ◌⊎◌, inl, inr, ℕ, zero, suc, ◌+◌, ◌<◌, ◌≤◌, Bool, true, false, cond, ◌==◌, List, [], ◌∷◌, ◌++◌, length, take, drop, refl, sym, ap, ◌∙◌, subst, arith, append_assoc, append-nil}
+use Rattle.std.proofs.Common.{◌≡◌, ◌≢◌, ◌⊎◌, inl, inr, ℕ, zero, suc, ◌+◌, ◌<◌, ◌≤◌, Bool, true, false, cond, ◌==◌, List, [], ◌∷◌, ◌++◌, length, take, drop, refl, sym, ap, ◌∙◌, subst, arith, append-nil}
 use Rattle.std.specs.Prelude.{All}
 use Rattle.std.specs.List.{flat_map, range_with_len}
 use Rattle.std.specs.List.Sorted.{IsPermutation}
@@ -10,25 +10,23 @@ use Rattle.std.proofs.lemmas.List.{take-append-drop}
 use Rattle.std.proofs.lemmas.List.Elements.{All-append, All-head, All-nil, All-tail, All-weaker}
 use Rattle.event_spec.specs.declared.event.Event.TheVariants as event
 use Rattle.event_spec.specs.Effects.{CoreEvent}
-use Rattle.event_spec.specs.Parts.{Shape}
 use Rattle.event_spec.specs.Replies.{CoreReply}
 use Rattle.isolation_spec.specs.Commits.{AreCommitsOf, IsCommitOf}
-use Rattle.isolation_spec.specs.Contents.{History, WriteSet}
+use Rattle.isolation_spec.specs.Contents.{WriteSet}
 use Rattle.timeline_laws.proofs.Ranges.{range-append}
 use Rattle.workload_spec.specs.declared.script.Script.{Script}
 use Rattle.workload_spec.specs.Valid.{is_valid}
 use Rattle.run_spec.specs.declared.commit.Commit.{Commit}
 use Rattle.run_spec.specs.Commits.{commit_by, commits_along, history_behind, write_sets, writes_of}
-use Rattle.run_spec.specs.Histories.{history_at}
-use Rattle.run_spec.specs.Occurrences.{Logged, Occurrence, occurrences_in, under}
-use Rattle.run_spec.specs.Ran.{AreRounds, IsOfScript, IsRunnable, Ran, RoundRun, shape_of}
+use Rattle.run_spec.specs.Occurrences.{Occurrence, under}
+use Rattle.run_spec.specs.Ran.{AreRounds, IsOfScript, RoundRun, shape_of}
 use Rattle.run_spec.specs.Traces.{as_log}
 use Rattle.run_laws.proofs.Calls.Named.{run_lawful, run_named}
 use Rattle.run_laws.proofs.Commits.Histories.{same_or_not}
 use Rattle.run_laws.proofs.Commits.Numbers.{all_behind, all_front}
 use Rattle.run_laws.proofs.Commits.Shares.{along_of, histories_go_on, made_by, since_is, sorted_shares_are}
 use Rattle.run_laws.proofs.Commits.Tables.{EventFits, OccurrenceFits, along_fit, is_no_commit, run_fits}
-use Rattle.run_laws.specs.Commits.Rounds.{AreOfTheRound, GoesOnBy, HistoriesAreOfTheTables, RoundsGoOnByTheirCommits}
+use Rattle.run_laws.specs.Commits.Rounds.{HistoriesAreOfTheTables, RoundsGoOnByTheirCommits}
 use Rattle.run_laws.specs.Commits.Shares.{IsEndOf, IsUnderOne, commits_since}
 
 -- the events of some rounds

@@ -9,9 +9,7 @@ use Rattle.std.proofs.lemmas.List.{length-map, map-append}
 use Rattle.std.proofs.lemmas.List.Elements.{All-head, All-tail}
 use Rattle.std.proofs.lemmas.List.FromFn.{length-range_with_len}
 use Rattle.std.proofs.lemmas.List.Sorted.{IsPermutation-append, IsPermutation-append_comm, IsPermutation-append_left, IsPermutation-append_right, IsPermutation-refl, IsPermutation-sym, IsPermutation-trans}
-use Rattle.event_spec.specs.Replay.{opening}
 use Rattle.isolation_spec.specs.Contents.{History}
-use Rattle.isolation_spec.specs.Machine.{opening_from}
 use Rattle.timeline_laws.proofs.Ranges.{range-append}
 use Rattle.run_spec.specs.declared.commit.Commit.{Commit}
 use Rattle.run_spec.specs.Commits.{SessionWrites, commit_by, commits_along, commits_of, history_behind, write_sets, writes_of}

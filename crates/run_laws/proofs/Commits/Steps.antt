@@ -1,5 +1,5 @@
 -- What one event is to the writes and commits of its session, and to the machine.
-use Rattle.std.proofs.Common.{◌≡◌, ◌≢◌, ◌⊎◌, inl, inr, ℕ, ◌+◌, ◌≤◌, Bool, true, false, cond, eqb, not, ◌==◌, List, [], ◌∷◌, ◌++◌, map, length, Option, None, Some, Result, Ok, Err, option_map, refl, sym, ap, ◌∙◌, subst, arith, append-nil}
+use Rattle.std.proofs.Common.{◌≡◌, ◌≢◌, ◌⊎◌, inl, inr, ℕ, ◌+◌, ◌≤◌, Bool, true, false, cond, eqb, ◌==◌, List, [], ◌∷◌, ◌++◌, map, length, Option, None, Some, Result, Ok, Err, option_map, refl, sym, ap, ◌∙◌, subst, arith, append-nil}
 use Rattle.std.specs.Prelude.{IfSome, ℤ}
 use Rattle.std.specs.BTreeMap.{insert_entry}
 use Rattle.std.specs.List.{range_with_len}
@@ -23,23 +23,22 @@ use Rattle.event_spec.specs.Effects.{CoreEvent, change_judged, insert_judged, ra
 use Rattle.event_spec.specs.Lawful.{reads_handed, session_of}
 use Rattle.event_spec.specs.Parts.{Parts, Shape, body_at, is_head}
 use Rattle.event_spec.specs.Replies.{CoreReply, in_key_order, reply_to, reply_to_commit, reply_to_image, reply_to_seal, reply_to_write, rows_read}
-use Rattle.isolation_spec.specs.Contents.{History, WriteSet, key_of, place_at, place_cmp, place_of}
+use Rattle.isolation_spec.specs.Contents.{WriteSet, key_of, place_at, place_cmp, place_of}
 use Rattle.isolation_spec.specs.declared.command.Act.{Act}
 use Rattle.isolation_spec.specs.declared.command.Act.TheVariants as act
-use Rattle.isolation_spec.specs.declared.command.Answer.{Answer}
 use Rattle.isolation_spec.specs.declared.command.Answer.TheVariants as answer
 use Rattle.isolation_spec.specs.declared.command.Command.{Command as Request}
 use Rattle.isolation_spec.specs.declared.place.Place.{Place}
 use Rattle.isolation_spec.specs.declared.read.Read.{Read}
 use Rattle.isolation_spec.specs.Machine.{IsolationMachine, Transaction, transaction_of, with_own, without}
 use Rattle.isolation_spec.specs.Reads.{ReadSet}
-use Rattle.isolation_spec.specs.Store.{Allows, Outcome, Answered, Freezing, Full, Memory}
+use Rattle.isolation_spec.specs.Store.{Allows, Outcome, Answered}
 use Rattle.outcome_spec.specs.Entries.{commit_in, is_accepted, is_commit, is_end, snapshot_in}
 use Rattle.outcome_spec.specs.Runs.{write_of}
 use Rattle.timeline_laws.proofs.Agrees.{others-open}
 use Rattle.timeline_laws.proofs.Machine.{Free, Sane, at-begun, at-ended, at-written, begun, committed, entering, eqb-itself, free-none, its-session, sane-begin, sane-commit, sane-end, sane-write}
 use Rattle.timeline_laws.proofs.Steps.{Change, commits, ends, opens, quiet, takes-change, writes}
-use Rattle.timeline_spec.specs.Timeline.{TakesAs, Tells, request_of, said_of}
+use Rattle.timeline_spec.specs.Timeline.{TakesAs, Tells, request_of}
 use Rattle.workload_spec.specs.declared.command.Command.{Command}
 use Rattle.workload_spec.specs.declared.command.Command.TheVariants as command
 use Rattle.workload_spec.specs.declared.reply.Said.{Said}

@@ -1,20 +1,17 @@
 -- The commits of a run are commits of its tables, and workers commit nothing.
-use Rattle.std.proofs.Common.{◌≡◌, ◌⊎◌, inl, inr, ℕ, zero, suc, ◌+◌, ◌<◌, ◌≤◌, Bool, true, false, cond, ◌==◌, List, [], ◌∷◌, ◌++◌, map, length, take, drop, Option, None, Some, refl, sym, ap, ◌∙◌, subst, arith, append_assoc, append-nil}
+use Rattle.std.proofs.Common.{◌≡◌, ℕ, ◌<◌, Bool, true, false, cond, ◌==◌, List, [], ◌∷◌, ◌++◌, Option, None, Some, refl, sym, ap, ◌∙◌, subst}
 use Rattle.std.specs.Prelude.{All, IfSome, IsSomeAnd, fold, is_none, is_some, option_and_then, option_map, option_to_list, slice_get, ℤ}
 use Rattle.std.specs.BTreeMap.{insert_entry}
-use Rattle.std.specs.List.{cons_option, filter, flat_map, range_with_len}
-use Rattle.std.specs.List.Sorted.{IsPermutation}
+use Rattle.std.specs.List.{cons_option, flat_map}
 use Rattle.std.specs.Option.{option_map_or}
 use Rattle.std.specs.Ordering.{match_ordering}
 use Rattle.std.specs.declared.cmp.Ordering.{Ordering}
 use Rattle.std.specs.declared.cmp.Ordering.TheVariants.{Equal, Greater, Less}
-use Rattle.std.proofs.lemmas.Bool.Decides.{nat_tests}
-use Rattle.std.proofs.lemmas.Grind.{flat_map-append}
 use Rattle.std.proofs.lemmas.List.{map-append}
 use Rattle.std.proofs.lemmas.List.Elements.{All-append, All-cons, All-filter, All-head, All-nil, All-tail}
 use Rattle.cell_model.specs.declared.cell.Cell.{Cell}
 use Rattle.cell_model.specs.declared.table.TableDecl.{TableDecl}
-use Rattle.cell_model.specs.Rows.{Fits, fits, row_fault}
+use Rattle.cell_model.specs.Rows.{fits, row_fault}
 use Rattle.cell_model.specs.declared.row.RowFault.{RowFault}
 use Rattle.event_spec.specs.declared.event.Event.TheVariants as event
 use Rattle.event_spec.specs.Effects.{CoreEvent}
@@ -22,7 +19,7 @@ use Rattle.event_spec.specs.Parts.{Shape}
 use Rattle.event_spec.specs.Replay.{opening}
 use Rattle.event_spec.specs.Replies.{CoreReply}
 use Rattle.isolation_spec.specs.Commits.{AreCommitsOf, FitsPlace, IsCommitOf, IsWriteOf}
-use Rattle.isolation_spec.specs.Contents.{History, WriteSet, key_of, place_at, place_cmp, place_of}
+use Rattle.isolation_spec.specs.Contents.{WriteSet, key_of, place_at, place_cmp, place_of}
 use Rattle.isolation_spec.specs.declared.place.Place.{Place}
 use Rattle.isolation_spec.specs.Order.{InOrder}
 use Rattle.isolation_laws.proofs.Overlays.{order-insert}
@@ -36,13 +33,12 @@ use Rattle.workload_spec.specs.declared.script.Script.{Script}
 use Rattle.workload_spec.specs.Valid.{fits_table, is_command, is_key_number, is_table_place, is_valid}
 use Rattle.run_spec.specs.declared.commit.Commit.{Commit}
 use Rattle.run_spec.specs.Commits.{SessionWrites, commit_by, commit_told, commits_along, entered, line_by, own_written, says, write_sets, writes_behind, writes_of}
-use Rattle.run_spec.specs.Histories.{history_at}
-use Rattle.run_spec.specs.Occurrences.{Logged, Occurrence, occurrences_in, under}
-use Rattle.run_spec.specs.Ran.{IsRunnable, Ran, RoundRun, shape_of}
+use Rattle.run_spec.specs.Occurrences.{Logged, Occurrence, under}
+use Rattle.run_spec.specs.Ran.{Ran, RoundRun, shape_of}
 use Rattle.run_spec.specs.Traces.{as_log}
-use Rattle.run_laws.proofs.Calls.Along.{and_first, and_second}
-use Rattle.run_laws.proofs.Calls.Upkeep.{front_replied, logs_are_replied, rest_replied, under_replied}
-use Rattle.run_laws.proofs.Explained.Keys.{KeyFits, quiet_fits}
+use Rattle.run_laws.proofs.Calls.Along.{and_first}
+use Rattle.run_laws.proofs.Calls.Upkeep.{logs_are_replied, rest_replied, under_replied}
+use Rattle.run_laws.proofs.Explained.Keys.{KeyFits}
 use Rattle.run_laws.proofs.Explained.Scripts.{asked_fits, event_key, worker_upkeep}
 use Rattle.run_laws.proofs.Moments.Rounds.{runs_have_moments}
 use Rattle.run_laws.proofs.Told.Tells.{calls_go_on_quietly, last_events_are_told}
