@@ -1,4 +1,5 @@
 pub mod Calls
+pub mod Commits
 pub mod Moments
 pub mod Told
 pub mod Counts

@@ -3,6 +3,7 @@
 #![tactic(auto)]
 
 pub mod call_laws;
+pub mod commit_laws;
 pub mod count_laws;
 pub mod explained_laws;
 pub mod export_laws;

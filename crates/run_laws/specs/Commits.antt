@@ -1,0 +1,4 @@
+pub mod Laws
+pub mod Shares
+pub mod Numbers
+pub mod Rounds
