@@ -1,7 +1,7 @@
 -- How calls of a disk that change nothing go on.
 use Rattle.std.proofs.Common.{◌≡◌, ◌∙◌, refl, ℕ, List, Option}
 use Rattle.disk_ports.specs.Crashes.{Elapses, NoMore}
-use Rattle.disk_ports.proofs.Moments.{goes_on, started}
+use Rattle.disk_ports.proofs.Moments.{goes_further, goes_on, started}
 use Rattle.commit_log.specs.Readings.{OnlyReads}
 
 module _ {D : Type 0} (told : D → Option (List ℕ)) (may_leave : D → List ℕ → Type 0)
@@ -26,4 +26,16 @@ module _ {D : Type 0} (told : D → Option (List ℕ)) (may_leave : D → List �
     no_more = λ c now. so_far.no_more c (no_more c now);
     any_moment = goes_on moment left_since old mid new (may_leave old) (may_leave new)
         so_far.any_moment time (λ c now. so_far.no_more c (no_more c now));
+  }
+
+  -- a run of such calls behind another
+  pub run_on : (old mid new : D) → OnlyReads told may_leave moment left_since old mid
+      → OnlyReads told may_leave moment left_since mid new
+      → OnlyReads told may_leave moment left_since old new
+  run_on old mid new first next = record {
+    same = next.same ∙ first.same;
+    no_more = λ c now. first.no_more c (next.no_more c now);
+    any_moment = goes_further moment left_since old mid new (may_leave old) (may_leave mid)
+        (may_leave old) first.any_moment next.any_moment (λ c was. was)
+        (λ c was. first.no_more c was);
   }

@@ -9,3 +9,4 @@ pub mod Judged
 pub mod LogTold
 pub mod Shown
 pub mod Unjudged
+pub mod Flushes

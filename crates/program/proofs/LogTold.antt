@@ -42,25 +42,21 @@ module _ (tables : List TableDecl) (path : List ℕ) (disk : OfDisk) (commits : 
       → LogToldEnds tables path disk status.Done before now
   told_whole gate is printed = (
     started,
-    (
-      gate,
-      subst (λ e. PrintsLog Appends tables disk.file e before now) is (prints Appends printed),
-    ),
+    gate,
+    subst (λ e. PrintsLog Appends tables disk.file e before now) is (prints Appends printed),
   )
 
   pub told_broken : (place : ℕ) → end ≡ log_end.Broken place → Appends before now text
       → LogToldEnds tables path disk status.NotALog before now
   told_broken place is printed = (
     started,
-    (
-      place,
-      subst (λ e. PrintsLog Appends tables disk.file e before now) is (prints Appends printed),
-    ),
+    place,
+    subst (λ e. PrintsLog Appends tables disk.file e before now) is (prints Appends printed),
   )
 
   pub told_in_part : AppendsFront before now text
       → LogToldEnds tables path disk status.OutFault before now
-  told_in_part printed = (started, (end, prints AppendsFront printed))
+  told_in_part printed = (started, end, prints AppendsFront printed)
 
 -- ---- behind the input
 
@@ -71,20 +67,20 @@ pub log_ends : (path : List ℕ) (disk : OfDisk) (ended : Status) (script : Scri
     → LogToldEnds script.tables path disk ended before.printed now.printed
     → LogEnds path disk ended before now
 log_ends path disk status.Done script before now reads outlet told = (
-  told.1.0,
-  record { script = script; reads = reads; started = told.0; told = told.1.1; outlet = outlet },
+  told.1,
+  record { script = script; reads = reads; started = told.0; told = told.2; outlet = outlet },
 )
 log_ends path disk status.OutFault script before now reads outlet told = inr (
-  told.1.0,
-  record { script = script; reads = reads; started = told.0; told = told.1.1; outlet = outlet },
+  told.1,
+  record { script = script; reads = reads; started = told.0; told = told.2; outlet = outlet },
 )
 log_ends path disk status.Memory script before now reads outlet told =
     (told.0, record { printed = told.1; outlet = outlet })
 log_ends path disk status.LogFault script before now reads outlet told =
     (script, reads, told.0, record { printed = told.1; outlet = outlet })
 log_ends path disk status.NotALog script before now reads outlet told = (
-  told.1.0,
-  record { script = script; reads = reads; started = told.0; told = told.1.1; outlet = outlet },
+  told.1,
+  record { script = script; reads = reads; started = told.0; told = told.2; outlet = outlet },
 )
 log_ends path disk _ script before now reads outlet told = absurd told
 
