@@ -1,7 +1,7 @@
--- What the flush behind a work leaves of it.
-use Rattle.std.proofs.Common.{◌≡◌, ℕ, true, ap, sym, ◌∙◌, inl, inr}
+-- What a work that is flushed, or has no log, tells of one.
+use Rattle.std.proofs.Common.{◌≡◌, ℕ, true, ap, refl, subst, sym, ◌∙◌, inl, inr}
 use Rattle.program.specs.Flushed.{FlushEnds}
-use Rattle.program.specs.Outcome.{has_read}
+use Rattle.program.specs.Outcome.{Outside, TellsFaults, has_read}
 use Rattle.program.specs.declared.status.Status.{Status}
 use Rattle.program.specs.declared.status.Status.TheVariants as status
 
@@ -16,3 +16,13 @@ stays_flushed worked ended before now P (inr turns) stays is =
       let never : ⊥ = cc in
       never
     )
+
+-- A work that never ends with a fault of the log tells none.
+pub no_log_fault : (Ends : Status → Outside → Outside → Type 0)
+    → ((before now : Outside) → Ends status.LogFault before now → ⊥)
+    → (ended : Status) (before now : Outside) → Ends ended before now
+    → (faults : ℕ) → TellsFaults status.LogFault ended faults faults
+no_log_fault Ends never ended before now ends faults = record {
+  told = λ is. absurd (never before now (subst (λ s. Ends s before now) is ends));
+  kept = λ other. refl;
+}

@@ -45,6 +45,8 @@ PieceEnds before fed piece status.Memory printed =
 PieceEnds before fed piece status.NotAStream printed =
     IsSome (reading_of (fed ++ piece)).fault × IsTold (fed ++ piece) before printed
 PieceEnds before fed piece status.TooLong printed = ⊥
+PieceEnds before fed piece status.LogFault printed = ⊥
+PieceEnds before fed piece status.NotALog printed = ⊥
 
 -- What is printed where the input ends.
 abbrev pub InputEnds : Option (List ℕ) → List ℕ → Status → Option (List ℕ) → Type 0
@@ -60,6 +62,8 @@ InputEnds before fed status.Memory printed = Appends before printed (front_text 
 InputEnds before fed status.NotAStream printed =
     IsSome (reading_of fed).fault × Appends before printed (shown_text (reading_of fed))
 InputEnds before fed status.TooLong printed = ⊥
+InputEnds before fed status.LogFault printed = ⊥
+InputEnds before fed status.NotALog printed = ⊥
 
 -- how the program ends with a piece, if it does, by how far the stream has come
 abbrev pub ended_with : Stand → Option Status
