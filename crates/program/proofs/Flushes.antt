@@ -12,9 +12,9 @@ stays_flushed worked ended before now P (inl stands) stays is =
     stays (ap has_read (sym stands.same) ∙ is)
 stays_flushed worked ended before now P (inr turns) stays is =
     absurd (
-      let fault : has_read status.OutFault ≡ true = ap has_read (sym turns.told) ∙ is in
-      let never : ⊥ = cc in
-      never
+    let fault : has_read status.OutFault ≡ true = ap has_read (sym turns.told) ∙ is in
+    let never : ⊥ = cc in
+    never
     )
 
 -- A work that never ends with a fault of the log tells none.
