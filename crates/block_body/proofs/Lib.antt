@@ -5,6 +5,7 @@ pub mod Installed
 pub mod Fronts
 pub mod Frozen
 pub mod Keyed
+pub mod Laid
 pub mod Listed
 pub mod Looks
 pub mod Lookups

@@ -1,10 +1,10 @@
 -- What a change makes of a slot, be it a session's write or one half of a move.
-use Rattle.std.specs.Prelude.{◌≡◌, ℕ, ◌<◌, ◌≤◌, ℤ, true, false, not, ◌&&◌, ◌∷◌, Option, None, Some}
-use Rattle.std.specs.Prelude.{option_map, length, if◌then◌else◌}
+use Rattle.std.specs.Prelude.{◌≡◌, ℕ, ◌<◌, ◌≤◌, ℤ, true, false, not, ◌&&◌, [], ◌∷◌, Option, None, Some}
+use Rattle.std.specs.Prelude.{option_map, length, slice_set, if◌then◌else◌}
 use Rattle.isolation_spec.specs.Contents.{key_of}
 use Rattle.block_spec.specs.declared.change.Change.{Change}
 use Rattle.block_spec.specs.Bodies.{Body, slot_in}
-use Rattle.block_spec.specs.Slots.{Slot, has_none, is_bare, image_before, pruned, row_after}
+use Rattle.block_spec.specs.Slots.{Row, Slot, has_none, is_bare, image_before, pruned, row_after}
 use Rattle.block_spec.specs.Slots.{taken_back}
 use Rattle.block_body.specs.declared.origin.Origin.{Origin}
 
@@ -20,6 +20,11 @@ changed by new slot = record {
     before = image_before slot.row new;
   } ∷ slot.entries;
 }
+
+-- A body with a row in a slot that has no entry, which is no modification.
+abbrev pub with_row : ℕ → Row → Body → Body
+with_row slot row body = record body
+    { slots = slice_set body.slots slot (record { row = Some row; entries = [] }) }
 
 -- The key of a slot that a pruning leaves bare, though it is not: that of the row which its newest
 -- change took away.

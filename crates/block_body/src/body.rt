@@ -17,7 +17,7 @@ ghost use Rattle.block_spec.specs.Bodies.{taken_back_in};
 ghost use Rattle.block_columns.specs.Images.{IsWhole};
 ghost use Rattle.block_body.specs.Ages.{is_settled};
 ghost use Rattle.block_body.specs.Bodies.{wants_row};
-ghost use Rattle.block_body.specs.Changes.{IsNextVersioned, changed, key_left};
+ghost use Rattle.block_body.specs.Changes.{IsNextVersioned, changed, key_left, with_row};
 ghost use Rattle.block_body.specs.Frozen.{IsImageOf, image_of};
 ghost use Rattle.block_body.specs.Keys.{HasKey, HasKeys};
 
@@ -213,6 +213,20 @@ impl Body {
             phase: self.phase,
             cooling: self.cooling,
         })
+    }
+
+    /// Lays a row in a bare slot, without an entry, as it stood there before the body was. Without
+    /// memory the body stays as it is.
+    pub fn lay(&mut self, slot: u32, row: Row) -> Result<(), AllocError>
+        requires loose { is_loose self.old.phase ≡ true }
+        requires slot { slot < length self.old.slots }
+        requires bare { is_bare (slot_in self.old slot) ≡ true }
+        requires fits { Fits self.old.columns row }
+        ensures ok { OnOk result (self.new ≡ with_row slot row self.old) }
+        ensures err { OnErr result (self.new ≡ self.old) }
+    {
+        self.rows.put(slot, row)?;
+        Ok(())
     }
 
     /// Makes a session's write in a slot. The block is modified by it, but for want of memory,

@@ -12,4 +12,5 @@ pub mod Keyed
 pub mod Least
 pub mod Touched
 pub mod Written
+pub mod FirstRows
 pub mod Found

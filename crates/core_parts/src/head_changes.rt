@@ -1,5 +1,5 @@
 //! A table's head.
-ghost use Rattle.std.specs.Prelude.{◌≡◌, ℕ, ◌+◌, ◌<◌, ◌≤◌, ◌^◌, IfOk, IfSome, IfNone, length};
+ghost use Rattle.std.specs.Prelude.{◌≡◌, ◌+◌, ◌*◌, ◌<◌, ◌≤◌, ◌^◌, IfOk, IfSome, IfNone, length};
 ghost use Rattle.std.specs.List.{insert};
 ghost use Rattle.event_spec.specs.Effects.{taken_by};
 ghost use Rattle.event_spec.specs.Judged.{next_place};
@@ -42,19 +42,23 @@ impl Model for TableHead {
 }
 
 impl TableHead {
-    /// The head of a table before its first event: block 0 takes inserts, and the others are empty.
-    pub fn new(alloc: Global, blocks: u32) -> Result<TableHead, AllocError>
-        requires { blocks ≤ 2 ^ 10 }
-        ensures { IfOk result (λ head. (slots : ℕ) → head ≡ opening_head blocks slots 0) }
+    /// The head of a table before its first event, where so many rows fill its slots from the
+    /// first: the block of the last one takes inserts, and those behind it are empty.
+    pub fn new(alloc: Global, blocks: u32, slots: u32, rows: u32) -> Result<TableHead, AllocError>
+        requires blocks { blocks ≤ 2 ^ 10 }
+        requires slots { 1 ≤ slots }
+        requires rows { rows ≤ blocks * slots }
+        ensures { IfOk result (λ head. head ≡ opening_head blocks slots rows) }
     {
+        let block = rows.saturating_sub(1) / slots;
         let mut empty = Vec::with_capacity(alloc, MOST_BLOCKS as usize)?;
-        for block in 1..blocks {
-            empty.push(block)?;
+        for behind in block + 1..blocks {
+            empty.push(behind)?;
         }
         Ok(TableHead {
-            block: 0,
-            taken: 0,
-            inserts: 0,
+            block,
+            taken: rows - block * slots,
+            inserts: u64::from(rows),
             empty,
         })
     }

@@ -3,6 +3,8 @@
 #![tactic(auto)]
 
 mod access;
+mod first_parts;
+mod first_rows;
 mod front_columns;
 mod gathered;
 mod head_changes;
@@ -16,6 +18,7 @@ mod read_rows;
 mod shape;
 mod shard_changes;
 mod shared_rows;
+mod start_fault;
 mod touching;
 mod written;
 
@@ -33,4 +36,5 @@ pub use read_rows::{ReadForm, ReadRows};
 pub use shape::{Shape, shard_of};
 pub use shard_changes::{add_place, drop_place};
 pub use shared_rows::SharedRows;
+pub use start_fault::StartFault;
 pub use touching::{candidates, next_touched, shard_held, slot_written, touches};

@@ -1,5 +1,5 @@
 //! What numbers the parts.
-ghost use Rattle.std.specs.Prelude.{◌≡◌, ◌+◌, ◌*◌, ◌^◌, ◌<◌, ◌≤◌, [], Some, IfOk, length};
+ghost use Rattle.std.specs.Prelude.{◌≡◌, ◌+◌, ◌*◌, ◌^◌, ◌<◌, ◌≤◌, Some, IfOk, length};
 ghost use Rattle.std.specs.Prelude.{slice_get};
 ghost use Rattle.cell_model.specs.Schemas.{IsSchema};
 ghost use Rattle.core_parts.specs.Numbers.{AreNumbers, IsOfSize, after_bodies};
@@ -9,16 +9,20 @@ ghost use Rattle.event_spec.specs.Parts.{HeadOf, ShardOf, BodyOf, TheDesk, block
 ghost use Rattle.event_spec.specs.Parts.{shard_of, slots_of};
 
 use cell_model::{Schema, TableDecl};
+use isolation_spec::History;
 use std::alloc::{AllocError, Global};
 use std::marker::Model;
+use std::snapshot::Snapshot;
 
 /// The tables of a core, the number of its passes, and with them the number of each of its parts.
-/// Contracts see the record of `event_spec`, of a core that begins with no commit.
+/// Contracts see the record of `event_spec`.
 #[derive(Drop)]
 pub struct Shape {
     alloc: Global,
     tables: Vec<TableDecl>,
     passes: u32,
+    /// The commits that the core begins with, for contracts alone: none of their rows is kept.
+    first: Snapshot<History>,
     /// The number of each table's first body.
     bodies: Vec<u32>,
     /// The number of the desk, which is the last.
@@ -26,7 +30,6 @@ pub struct Shape {
 }
 
 impl Model for Shape {
-    ghost use Rattle.std.specs.Prelude.{[]};
     ghost use Rattle.event_spec.specs.Parts.{Shape as ShapeValue};
     ghost use Rattle.core_parts.specs.Numbers.{AreNumbers, IsOfSize};
 
@@ -35,7 +38,7 @@ impl Model for Shape {
     ghost view = { λ shape. record {
       tables = shape.tables.items;
       passes = shape.passes;
-      first = [];
+      first = shape.first.value;
     } };
 
     ghost invariant = { λ shape. AreNumbers shape.tables.items shape.bodies.items shape.desk
@@ -64,17 +67,23 @@ fn numbers_of(alloc: Global, tables: &[TableDecl]) -> Result<(Vec<u32>, u32), Al
 }
 
 impl Shape {
-    /// The shape of a core with these tables, for so many passes, that begins with no commit.
-    pub fn new(alloc: Global, tables: Vec<TableDecl>, passes: u32) -> Result<Shape, AllocError>
+    /// The shape of a core with these tables, for so many passes, that begins with these commits.
+    pub fn new(
+        alloc: Global,
+        tables: Vec<TableDecl>,
+        passes: u32,
+        first: &History,
+    ) -> Result<Shape, AllocError>
         requires { IsOfSize tables.items passes }
         ensures { IfOk result (λ shape. shape
-            ≡ record { tables = tables.items; passes = passes; first = [] }) }
+            ≡ record { tables = tables.items; passes = passes; first = first.now }) }
     {
         let (bodies, desk) = numbers_of(alloc, &tables)?;
         Ok(Shape {
             alloc,
             tables,
             passes,
+            first: Snapshot::of(first),
             bodies,
             desk,
         })

@@ -4,7 +4,6 @@ pub mod Handing
 pub mod Prunes
 pub mod Quiet
 pub mod Rolling
-pub mod Marks
 pub mod Commits
 pub mod Backs
 pub mod Bodies

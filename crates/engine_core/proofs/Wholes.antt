@@ -9,7 +9,7 @@ use Rattle.engine_core.specs.Core.{IsOpening, IsWhole, MayOpen, is_memory, parts
 use Rattle.event_spec.specs.declared.reply.Reply.TheVariants as reply
 use Rattle.event_spec.specs.Effects.{CoreEvent, changes_of, effect}
 use Rattle.event_spec.specs.Lawful.{Among, HasBlock, HasTable, IsLawful}
-use Rattle.event_spec.specs.Parts.{BodyOf, Changes, CorePart, Parts, Shape, ShardOf, Name, changed, each_changed, held_named, names, part_named, same_name, shard_of}
+use Rattle.event_spec.specs.Parts.{BodyOf, Changes, CorePart, Parts, Shape, ShardOf, Name, changed, each_changed, held_named, names, part_named, same_name, shard_of, slots_of}
 use Rattle.event_spec.specs.Replay.{opening, rows_first}
 use Rattle.event_spec.specs.Replay as replay
 use Rattle.event_spec.specs.Replies.{CoreReply}
@@ -17,8 +17,9 @@ use Rattle.core_laws.proofs.Events.Naming.{at_name, body_named, shard_named}
 use Rattle.core_laws.proofs.Events.Places.{shard_small}
 use Rattle.event_spec.specs.Sound.{IsOfKind, IsShape}
 use Rattle.core_laws.proofs.Frames.Reached.{core_kept, core_opens}
-use Rattle.core_parts.proofs.Plain.{no_rows}
-use Rattle.isolation_spec.specs.Commits.{AreCommitsOf, IsCommitOf}
+use Rattle.core_parts.specs.FirstRows.{HaveRoom, IsFirstFull}
+use Rattle.isolation_spec.specs.Commits.{AreCommitsOf}
+use Rattle.isolation_spec.specs.Contents.{History, rows_left}
 use Rattle.core_laws.specs.Frames.Shards.{CoreHolds}
 use Rattle.hall_rule.specs.Hands.{Agrees, Holds, all_in}
 
@@ -147,27 +148,35 @@ declared [] P f all t less = absurd (omega (arith, less))
 declared (table ∷ tables) P f all zero less = All-head (λ (table : TableDecl). P (f table)) table tables all
 declared (table ∷ tables) P f all (suc t) less = declared tables P f (All-tail (λ (table : TableDecl). P (f table)) table tables all) t (omega (arith, less))
 
--- what a core may be made of is a shape
-pub shape_is : (sh : Shape) → MayOpen sh.tables sh.passes → sh.first ≡ [] → IsShape sh
-shape_is sh may none = record {
+-- each table of what a core may be made of has a slot in a block
+pub has_slots : (sh : Shape) → MayOpen sh.tables sh.passes → (t : ℕ) → HasTable sh t → 1 ≤ slots_of sh t
+has_slots sh may t has = declared sh.tables (λ n. 1 ≤ n) (λ (table : TableDecl). table.slots) may.slots t has
+
+-- what a core may be made of is a shape, where its tables have room for what it begins with
+pub shape_is : (sh : Shape) → MayOpen sh.tables sh.passes → AreCommitsOf sh.tables sh.first → length sh.first ≤ 2 ^ 63 → HaveRoom sh (length sh.tables) → IsShape sh
+shape_is sh may commits few room = record {
   tables = may.few;
   blocks = λ t has. declared sh.tables (λ n. 1 ≤ n) (λ (table : TableDecl). table.blocks) may.blocks t has;
   slots = λ t has. (
-    declared sh.tables (λ n. 1 ≤ n) (λ (table : TableDecl). table.slots) may.slots t has,
+    has_slots sh may t has,
     declared sh.tables (λ n. n ≤ 2 ^ 15) (λ (table : TableDecl). table.slots) may.size.slots_few t has,
   );
-  commits = subst (AreCommitsOf sh.tables) (sym none) (All-nil (IsCommitOf sh.tables));
-  few = let long : length sh.first ≡ 0 = ap length none in omega (arith, long);
-  room = λ t has. let rows : length (rows_first sh t) ≡ 0 = ap length (no_rows sh none t) in omega (arith, rows);
+  commits = commits;
+  few = few;
+  room = room;
 }
 
 -- the hand of an opening core is whole
-pub opening_whole : (sh : Shape) (hand : Held) → MayOpen sh.tables sh.passes → sh.first ≡ [] → hand ≡ all_in (opening sh) → IsWhole sh hand
-opening_whole sh hand may none is = subst (IsWhole sh) (sym is) (record {
+pub opening_whole : (sh : Shape) (hand : Held) → IsShape sh → hand ≡ all_in (opening sh) → IsWhole sh hand
+opening_whole sh hand shape is = subst (IsWhole sh) (sym is) (record {
   all = ap all_in (sym (in_all (opening sh)));
-  holds = subst (CoreHolds sh) (sym (in_all (opening sh))) (core_opens sh (shape_is sh may none));
+  holds = subst (CoreHolds sh) (sym (in_all (opening sh))) (core_opens sh shape);
 })
 
 -- no event was made on the parts of an opening hand
-pub opening_is : (sh : Shape) (hand : Held) → MayOpen sh.tables sh.passes → sh.first ≡ [] → hand ≡ all_in (opening sh) → IsOpening sh (parts_in hand)
-opening_is sh hand may none is = record { measures = shape_is sh may none; parts_are = ap parts_in is ∙ in_all (opening sh) }
+pub opening_is : (sh : Shape) (hand : Held) → IsShape sh → hand ≡ all_in (opening sh) → IsOpening sh (parts_in hand)
+opening_is sh hand shape is = record { measures = shape; parts_are = ap parts_in is ∙ in_all (opening sh) }
+
+-- a core that begins with no commit has room for all its rows
+pub never_full : (sh : Shape) (t : ℕ) → sh.first ≡ [] → IsFirstFull sh t → ⊥
+never_full sh t none full = let more = full.more in let rows : length (rows_first sh t) ≡ 0 = ap (λ (first : History). length (rows_left first t)) none in absurd (omega (arith, more, rows))

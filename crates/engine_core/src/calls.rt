@@ -1,5 +1,7 @@
 //! What a core is asked as a whole, where one thread has all its parts.
-ghost use Rattle.std.specs.Prelude.{◌≡◌, ◌+◌, ◌≤◌, [], None, true, IfOk};
+ghost use Rattle.std.specs.Prelude.{◌≡◌, ◌+◌, ◌≤◌, ℕ, [], None, true, IfOk, IfErr};
+ghost use Rattle.core_parts.specs.declared.start_fault.StartFault.TheVariants as start;
+ghost use Rattle.core_parts.specs.FirstRows.{IsFirstFull};
 ghost use Rattle.engine_core.specs.Asks.{imaged_block};
 ghost use Rattle.engine_core.specs.Core.{IsOpening, MayOpen, is_memory};
 ghost use Rattle.engine_core.specs.Costs.{cost_of};
@@ -7,14 +9,16 @@ ghost use Rattle.event_spec.specs.Lawful.{HasBlock, HasTable, IsImageOf, IsLawfu
 ghost use Rattle.event_spec.specs.Lawful.{takes_memory};
 ghost use Rattle.event_spec.specs.Parts.{body_at};
 ghost use Rattle.event_spec.specs.Replay.{after, reply_after};
+ghost use Rattle.isolation_spec.specs.Commits.{AreCommitsOf};
 
 use crate::asks::{image_of, imaged};
 use crate::engine::Core;
 use crate::running::run;
 use cell_model::TableDecl;
 use core_events::CoreReply;
-use core_parts::{Gathered, KeyedEvent, Shape, opening_hand};
+use core_parts::{Gathered, KeyedEvent, Shape, StartFault, opening_hand};
 use hall_rule::Steps;
+use isolation_spec::History;
 use std::alloc::{AllocError, Global};
 use std::sync::ledger::Ledger;
 use std::thread::Threads;
@@ -28,8 +32,33 @@ impl Core {
             ≡ record { tables = tables.items; passes = passes; first = [] }) }
         ensures opening { IfOk result (λ core. IsOpening core.shape core.parts) }
     {
-        let shape = Shape::new(alloc, tables, passes)?;
-        let hand = opening_hand(&shape)?;
+        match Core::build_from(alloc, tables, passes, &History::new(alloc)) {
+            Ok(core) => Ok(core),
+            Err(StartFault::Memory) => Err(AllocError),
+            Err(StartFault::Full { .. }) => unreachable!(),
+        }
+    }
+
+    /// A core of these tables, for the sessions 1 to `passes`, before its first event. It begins with
+    /// these commits of the tables: their rows lie in the tables' first slots, and the next commit
+    /// is numbered behind theirs. Without room for a table's rows it names the first such table.
+    pub fn build_from(
+        alloc: Global,
+        tables: Vec<TableDecl>,
+        passes: u32,
+        first: &History,
+    ) -> Result<Core, StartFault>
+        requires open { MayOpen tables.items passes }
+        requires commits { AreCommitsOf tables.items first.now }
+        ensures shape { IfOk result (λ core. core.shape
+            ≡ record { tables = tables.items; passes = passes; first = first.now }) }
+        ensures opening { IfOk result (λ core. IsOpening core.shape core.parts) }
+        ensures full { IfErr result (λ fault. (table : ℕ) → fault ≡ start.Full table
+            → IsFirstFull
+            (record { tables = tables.items; passes = passes; first = first.now }) table) }
+    {
+        let shape = Shape::new(alloc, tables, passes, first)?;
+        let hand = opening_hand(&shape, first)?;
         Ok(Core { shape, hand })
     }
 

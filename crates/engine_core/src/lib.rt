@@ -11,4 +11,5 @@ mod words;
 
 pub use asks::{image_of, imaged};
 pub use core_events::{CoreReply, shared};
+pub use core_parts::StartFault;
 pub use engine::{Core, Opened};

@@ -1,14 +1,16 @@
-use Rattle.std.proofs.Common.{◌++◌, sym, ap, ◌∙◌}
-use Rattle.core_parts.proofs.Places.{grown, placed_table}
+use Rattle.std.proofs.Common.{◌++◌, ◌∷◌, [], Some, sym, ap, ◌∙◌}
+use Rattle.core_parts.proofs.Places.{grown, placed_more}
 use Rattle.core_parts.specs.Placed.{placed}
 use Rattle.core_parts.specs.Hands.{Held}
+use Rattle.event_spec.specs.declared.part.Part.TheVariants as part
 use Rattle.event_spec.specs.Parts.{ShardOf, below}
-use Rattle.std.specs.List.{flat_map}
+use Rattle.key_index.specs.Candidates.{Places}
 use Rattle.std.specs.Prelude.{map}
 use Rattle.core_parts.proofs.opening.add_shards.Goals as goal
 
-pub loop-table-preserved : goal.loop-table-preserved
-loop-table-preserved c =
+pub loop-shard-preserved : goal.loop-shard-preserved
+loop-shard-preserved c =
     let sh = c.args.shape.now in
-    grown c.args.places.now.items (placed sh (flat_map (λ table. map (ShardOf table) (below 8)) (below c.loop-table.table))) (placed sh (map (ShardOf c.loop-table.table) (below 8))) c.loop-table.places.items c.add_shards_of.new.places.items c.loop-table.invariant c.in_ok-add_shards_of.ensures
-    ∙ ap (λ (more : Held). c.args.places.now.items ++ more) (sym (placed_table sh (λ table. map (ShardOf table) (below 8)) c.loop-table.table))
+    let is = ap (λ (x : Places). Some (part.Shard x) ∷ []) (c.in_ok-new.ensures ∙ c.in_ok-index.ensures) in
+    grown c.args.shards.now.items (placed sh (map (ShardOf c.args.table) (below c.loop-shard.shard))) _ c.loop-shard.shards.items c.push.new.self.items c.loop-shard.invariant (c.in_ok-push.ensures.items ∙ ap (λ (more : Held). c.loop-shard.shards.items ++ more) is)
+    ∙ ap (λ (more : Held). c.args.shards.now.items ++ more) (sym (placed_more sh (ShardOf c.args.table) c.loop-shard.shard))

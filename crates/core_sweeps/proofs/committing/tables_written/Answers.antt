@@ -1,7 +1,7 @@
 use Rattle.std.proofs.Common.{◌||◌, ◌==◌, ◌∷◌, ℕ, [], map, sym, ap, ◌∙◌}
 use Rattle.std.proofs.lemmas.List.{map-append}
 use Rattle.std.specs.Map.Iter.{deref_pair}
-use Rattle.core_sweeps.proofs.Marks.{has, marks_more, told}
+use Rattle.core_parts.proofs.Marks.{has, marks_more, told}
 use Rattle.core_sweeps.proofs.Rolling.{any_more}
 use Rattle.event_spec.specs.Effects.{writes_table}
 use Rattle.isolation_spec.specs.Contents.{PlaceMap}

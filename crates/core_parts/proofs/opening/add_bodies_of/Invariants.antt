@@ -1,7 +1,0 @@
-use Rattle.std.proofs.Common.{◌≡◌, ◌++◌, map}
-use Rattle.core_parts.specs.Placed.{placed}
-use Rattle.event_spec.specs.Parts.{BodyOf, below}
-use Rattle.core_parts.proofs.opening.add_bodies_of.Given as goal
-
-abbrev pub invariant-loop-block : goal.invariant-loop-block
-invariant-loop-block l = l.places.items ≡ l.fn.places.items ++ placed l.shape (map (BodyOf l.table) (below l._block))
