@@ -1,14 +1,12 @@
 -- How what a crash leaves of a run's log goes on, and which numbers it keeps.
-use Rattle.std.proofs.Common.{◌≡◌, ◌⊎◌, inl, inr, ℕ, zero, suc, ◌+◌, ◌≤◌, List, [], ◌∷◌, ◌++◌, length, take, Option, Some, refl, sym, ap, ◌∙◌, subst, arith, length-append}
-use Rattle.isolation_spec.specs.Contents.{History}
+use Rattle.std.proofs.Common.{◌≡◌, ◌⊎◌, inl, inr, ℕ, zero, suc, ◌+◌, ◌≤◌, List, [], ◌∷◌, ◌++◌, length, take, Option, Some, refl, sym, ap, subst, arith, length-append}
 use Rattle.log_spec.specs.Reading.{Gives}
-use Rattle.workload_spec.specs.declared.script.Script.{Script}
 use Rattle.run_spec.specs.Histories.{history_at}
 use Rattle.run_spec.specs.Ran.{RoundRun}
 use Rattle.run_spec.specs.Commits.{history_behind, write_sets}
 use Rattle.std.specs.List.{flat_map}
 use Rattle.run_laws.proofs.Commits.Numbers.{numbers_are_within}
-use Rattle.run_laws.specs.Recovery.Leaves.{LeavesRounds, Survives}
+use Rattle.run_laws.specs.Recovery.Leaves.{LeavesRounds}
 use Rattle.run_laws.specs.Recovery.Laws.{AppendsLeaveRounds, NumbersAreKept, RoundsGoOn, SurvivalGoesOn}
 
 -- The numbers of the rounds that are kept are kept.

@@ -1,6 +1,6 @@
 -- The worked examples of what a crash leaves of a run's log.
-use Rattle.std.proofs.Common.{◌≡◌, ◌≢◌, ◌⊎◌, inl, inr, ℕ, zero, suc, ◌^◌, ◌<◌, ◌≤◌, List, [], ◌∷◌, ◌++◌, map, length, Option, None, Some, refl, sym, ap, ◌∙◌, subst, arith, length-append}
-use Rattle.std.specs.Prelude.{All, get_or, pos}
+use Rattle.std.proofs.Common.{◌≡◌, ◌⊎◌, inl, inr, ℕ, zero, suc, ◌≤◌, List, [], ◌∷◌, ◌++◌, map, length, Some, refl, sym, ap, ◌∙◌, subst, arith, length-append}
+use Rattle.std.specs.Prelude.{get_or, pos}
 use Rattle.std.specs.List.{flat_map}
 use Rattle.std.proofs.lemmas.List.Elements.{All-from_recursion, All-nil}
 use lib.Utf8.{encode}
@@ -9,11 +9,10 @@ use Rattle.isolation_spec.specs.Commits.{IsCommitOf, IsWriteOf}
 use Rattle.isolation_spec.specs.Contents.{History}
 use Rattle.log_spec.specs.Examples.{left, one_row, one_row_bytes, tables, text_row}
 use Rattle.log_spec.specs.LogText.{IsLogAt, IsOpen, magic, payload_text, record_text}
-use Rattle.log_spec.specs.Reading.{Gives, IsGroupOf, IsLogOf}
+use Rattle.log_spec.specs.Reading.{Gives, IsGroupOf}
 use Rattle.log_spec.proofs.Unique.{one_log}
 use Rattle.run_spec.specs.Histories.{history_at}
-use Rattle.run_spec.specs.Ran.{RoundRun}
-use Rattle.run_laws.specs.Recovery.Leaves.{BeginsWith, LeavesRounds}
+use Rattle.run_laws.specs.Recovery.Leaves.{LeavesRounds}
 use Rattle.run_laws.specs.Recovery.Examples.{FilesGiveTheFirst, FirstCommitsAreLeft, LogsLeaveRounds, SpoiledFilesDoNotSurvive, SurvivesOn, commits_a_row, cut_log, empty_log, may_leave, over, row_log}
 
 -- ---- what the files give

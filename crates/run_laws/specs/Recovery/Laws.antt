@@ -1,5 +1,5 @@
 -- How what a crash leaves of a run's log goes on from round to round, and which numbers it keeps.
-use Rattle.std.specs.Prelude.{◌≡◌, ◌⊎◌, ℕ, ◌+◌, ◌≤◌, List, ◌++◌, length, take, All, Option}
+use Rattle.std.specs.Prelude.{◌⊎◌, ℕ, ◌+◌, ◌≤◌, List, ◌++◌, length, take, All, Option}
 use Rattle.disk_ports.specs.Crashes.{LeavesOnly}
 use Rattle.log_spec.specs.Reading.{Gives}
 use Rattle.workload_spec.specs.declared.script.Script.{Script}
