@@ -54,12 +54,15 @@ open_gate : IsOpen (record { gate = 1; payload = one_row_bytes })
 open_gate = record { gate = λ closed. absurd (omega (arith, closed)); short = omega arith }
 
 gives_row : Gives tables row_log one_row
-gives_row = (37, record {
-  groups = one_row ∷ [];
-  are = All-from_recursion (IsGroupOf tables) (one_row ∷ []) (one_group, tt);
-  same = refl;
-  log = record { records = record { gate = 1; payload = one_row_bytes } ∷ []; behind = []; same = refl; are_open = (open_gate, tt); place = refl; is = refl };
-})
+gives_row = (
+  37,
+  record {
+    groups = one_row ∷ [];
+    are = All-from_recursion (IsGroupOf tables) (one_row ∷ []) (one_group, tt);
+    same = refl;
+    log = record { records = record { gate = 1; payload = one_row_bytes } ∷ []; behind = []; same = refl; are_open = (open_gate, tt); place = refl; is = refl };
+  },
+)
 
 -- and the first nothing else.
 no_groups : (groups : List History) → map payload_text groups ≡ [] → groups ≡ []
