@@ -7,3 +7,4 @@ pub mod Explained
 pub mod Rounds
 pub mod Exports
 pub mod Logs
+pub mod Recovery

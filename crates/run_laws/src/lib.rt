@@ -10,4 +10,5 @@ pub mod export_laws;
 pub mod log_laws;
 pub mod moment_laws;
 pub mod round_laws;
+pub mod surviving;
 pub mod told_laws;
