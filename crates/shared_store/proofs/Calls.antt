@@ -5,7 +5,7 @@ use Rattle.core_laws.specs.Words.Words.{thawed_part}
 use Rattle.event_spec.specs.declared.own.OwnTransaction.{OwnTransaction}
 use Rattle.event_spec.specs.declared.reply.Reply.TheVariants as reply
 use Rattle.event_spec.specs.Effects.{CoreEvent}
-use Rattle.event_spec.specs.Parts.{Shape}
+use Rattle.event_spec.specs.Parts.{Parts, Shape}
 use Rattle.event_spec.specs.Replies.{CoreReply}
 use Rattle.run_spec.specs.Asked.{events_of}
 use Rattle.run_spec.specs.Calls.{IsCallBy, is_memory, may_lack_memory, reads_behind}
@@ -36,7 +36,7 @@ use Rattle.store_laws.proofs.Going.{keys}
 use Rattle.store_laws.specs.OwnLaws.{HasOpened}
 use Rattle.run_spec.specs.Opened.{own_behind, own_key}
 use Rattle.shared_store.specs.Making.{FitsEach, Makes, MayMake, parts_seen}
-use Rattle.shared_store.specs.Store.{Answers, EndsCall, EndsWithLast, HandsView, HasRoomFor, IsAt, IsSession, SeatView, StoreView, TookPartsOf, events_made, opened_at, own_of, seen, shape_in, taken_by, reads_of}
+use Rattle.shared_store.specs.Store.{Answers, EndsCall, EndsWithLast, HandsView, HasRoomFor, IsAt, IsSession, SeatView, StoreView, TookPartsOf, events_made, opened_at, own_of, seen, shape_in, taken_by, reads_of, wrote_of}
 use Rattle.isolation_spec.specs.Contents.{PlaceMap, at_place, place_at}
 use Rattle.isolation_spec.specs.declared.place.Place.{Place}
 use Rattle.shared_store.specs.declared.session.Session.{Session}
@@ -47,7 +47,9 @@ use Rattle.std.specs.List.{last_or}
 use Rattle.run_spec.specs.Calls.{is_refused}
 use Rattle.store_laws.specs.Own.{entry_of, occurrence_at, parts_after}
 use Rattle.store_laws.proofs.Calling.{single_events_are_calls}
+use Rattle.shared_store.specs.Commits.{written_behind}
 use Rattle.shared_store.specs.Reads.{ReadsFit}
+use Rattle.shared_store.proofs.Noted.{unwritten}
 use Rattle.isolation_spec.specs.Reads.{ReadSet}
 
 -- a call without an event, of one whose own stays
@@ -83,16 +85,18 @@ unfoldable pub one_event_at : (store : StoreView) (old new : Session) (command :
     → new.session ≡ old.session
     → own_of new ≡ own_behind (own_of old) e told
     → reads_of new ≡ reads_behind (reads_of old) command line
+    → wrote_of new ≡ written_behind (occurrence_at old.session (parts_after (shape_in store) m.makes.before) e told ∷ []) (wrote_of old)
     → ReadsFit (shape_in store) (reads_of new)
     → refusal_of command (own_of old) ≡ None
     → events_of (shape_in store) (own_of old) (reads_of old) old.session command (occurrence_at old.session (parts_after (shape_in store) m.makes.before) e told ∷ []) ≡ e ∷ []
     → TellsLine (own_of old) command told line
     → IsSession store new × Answers store old new command line
-one_event_at store old new command e told line is other m same own_now keeps fits granted events tells = (
+one_event_at store old new command e told line is other m same own_now keeps wrote fits granted events tells = (
   session_is store new (subst (λ q. IsAt store q new.pass.seat new.pass.hands (own_of new)) (sym same)
       (subst (IsAt store old.session new.pass.seat new.pass.hands) (sym own_now) m.stands)) fits,
   record {
     keeps = keeps;
+    wrote = wrote;
     made = occurrence_at old.session (parts_after (shape_in store) m.makes.before) e told ∷ [];
     called = single_events_are_calls (shape_in store) old.session (seen old) (seen new) (own_of old) (reads_of old) command e told line is.own granted m.makes events tells unshared;
     count = m.count ∙ ap (λ b. events_made old + (0 + cond {A = ℕ} (not b) 1 0)) (sym unshared);
@@ -113,13 +117,14 @@ unfoldable pub one_event : (store : StoreView) (old new : Session) (command : Co
     → new.session ≡ old.session
     → own_of new ≡ own_behind (own_of old) e told
     → reads_of new ≡ reads_behind (reads_of old) command line
+    → ((parts : Parts) → wrote_of new ≡ written_behind (occurrence_at old.session parts e told ∷ []) (wrote_of old))
     → ReadsFit (shape_in store) (reads_of new)
     → refusal_of command (own_of old) ≡ None
     → ((events : List Occurrence) → events_of (shape_in store) (own_of old) (reads_of old) old.session command events ≡ e ∷ [])
     → TellsLine (own_of old) command told line
     → IsSession store new × Answers store old new command line
-one_event store old new command e told line is other m same own_now keeps fits granted events tells =
-    one_event_at store old new command e told line is other m same own_now keeps fits granted
+one_event store old new command e told line is other m same own_now keeps wrote fits granted events tells =
+    one_event_at store old new command e told line is other m same own_now keeps (wrote (parts_after (shape_in store) m.makes.before)) fits granted
     (events (occurrence_at old.session (parts_after (shape_in store) m.makes.before) e told ∷ [])) tells
 
 -- A call without an event leaves the session as it was.
@@ -128,6 +133,7 @@ pub no_event : (store : StoreView) (s : Session) (command : Command) (line : Sai
 no_event store s command line is refused keeps = record {
   made = [];
   keeps = keeps;
+  wrote = sym (unwritten [] (λ w. refl) (wrote_of s));
   called = refused_call (shape_in store) s.session (seen s) (own_of s) is.own (reads_of s) command line refused;
   count = omega arith;
   ends = tt;
@@ -205,10 +211,11 @@ told_or_memory store session old new hands own e told m = go (is_memory told) re
 
 -- a command that found no memory before its first event leaves the session as it was
 unfoldable pub unmade : (store : StoreView) (s : Session) (writes : PlaceMap ℕ) (command : Command) → IsSession store s → refusal_of command (own_of s) ≡ None → may_lack_memory command ≡ true
-    → Answers store s (record { pass = s.pass; session = s.session; snapshot = s.snapshot; writes = writes; reads = s.reads }) command said.Memory
+    → Answers store s (record { pass = s.pass; session = s.session; snapshot = s.snapshot; writes = writes; reads = s.reads; kept = s.kept }) command said.Memory
 unmade store s writes command is granted may = record {
   made = [];
   keeps = refl;
+  wrote = sym (unwritten [] (λ w. refl) (wrote_of s));
   called = unmade_call (shape_in store) s.session (seen s) (own_of s) is.own (reads_of s) command granted may;
   count = omega arith;
   ends = tt;

@@ -46,7 +46,8 @@ use Rattle.workload_spec.specs.declared.reply.Said.{Said}
 use Rattle.workload_spec.specs.declared.reply.Said.TheVariants as said
 use Rattle.shared_store.specs.Changing.{Changes, ChangesHeld, HasMade, IsChangeBy, IsChangeOf, IsChangeTo}
 use Rattle.shared_store.specs.Making.{Gives, IsFew, MakesHeld, MayMakeHeld, MayThawHeld, Takes, parts_seen}
-use Rattle.shared_store.specs.Store.{Answers, EndsWithLast, HandsView, IsAt, IsSession, IsWithin, SeatView, StoreView, TookPartsOf, own_of, seen, shape_in, taken_by, reads_of}
+use Rattle.shared_store.specs.Store.{Answers, EndsWithLast, HandsView, IsAt, IsSession, IsWithin, SeatView, StoreView, TookPartsOf, own_of, seen, shape_in, taken_by, reads_of, wrote_of}
+use Rattle.shared_store.specs.Commits.{written_behind}
 use Rattle.shared_store.specs.Writing.{IsWriteReply, is_written}
 use Rattle.shared_store.specs.declared.session.Session.{Session}
 use Rattle.shared_store.proofs.Along.{change_along, nothing_along}
@@ -349,14 +350,16 @@ changed_session store old new place write told m same own_now fits =
 -- and what it answers
 pub changed_call : (store : StoreView) (old new : Session) (place : Place) (write : CoreEvent) (told : CoreReply) (asked : Command) (line : Said)
     → IsSession store old
-    → Changes store old.session old.pass.seat new.pass.seat new.pass.hands (own_of old) place write told
+    → (m : Changes store old.session old.pass.seat new.pass.seat new.pass.hands (own_of old) place write told)
     → IsChangeBy (shape_in store) old.session (own_of old) place write asked
     → told_by place.table 0 told ≡ Some line
     → reads_of new ≡ reads_behind (reads_of old) asked line
+    → wrote_of new ≡ written_behind m.change.made (wrote_of old)
     → Answers store old new asked line
-changed_call store old new place write told asked line is m by tells keeps = record {
+changed_call store old new place write told asked line is m by tells keeps wrote = record {
   made = made;
   keeps = keeps;
+  wrote = wrote;
   called = record {
     stretch = events_are_a_stretch shape old.session (seen old) (seen new) made m.change.goes_on m.change.own m.change.events;
     is_call = subst (λ (o : Option OwnTransaction). IsCallBy shape false old.session o (refusal_of asked o) call) is.own

@@ -112,6 +112,7 @@ went_wider store old new events more made w = record {
   same = w.same;
   opened = w.opened;
   kept = w.kept;
+  unwritten = w.unwritten;
   stretch = w.stretch;
   count = w.count;
   ends = w.ends;
@@ -170,7 +171,7 @@ module _ (store : StoreView) (t : ℕ) where
   looks_on first mid new k look looks s m lt =
       subst (λ (es : List CoreEvent). Sweeps store asked (HaveLooked (looks ++ look_of k look ∷ [])) first new es) (block_more sh looking t k)
       (sweeps_on store asked (HaveLooked looks) (HaveLooked (looks ++ look_of k look ∷ [])) first mid new (map (looking t) (below k)) (looking t k) (reply.Looked look) s m
-      (is_asked k lt) refl refl refl (look_more k look looks first.session))
+      (is_asked k lt) refl refl refl refl (look_more k look looks first.session))
 
   -- ---- no memory
 
@@ -194,7 +195,7 @@ module _ (store : StoreView) (t : ℕ) where
   pub looks_lost : (old mid new : Session) (k : ℕ) (looks : List BlockLook) (told : CoreReply) → IsSession store old → k < blocks_of sh t → Looks store old mid t k looks
       → MakesAlone store mid new (looking t k) told → Answers store old new (Compact t) said.Memory
   looks_lost old mid new k looks told is lt s m = lost old new (k + 1) (s.made ++ last ∷ []) is (omega (arith, lt))
-      (went_more store old mid new (looking t k) told asked s.made s.went m.session m.same m.opened m.kept m.makes.makes m.makes.count m.makes.took (is_asked k lt) refl (keeps_same m.makes.reads))
+      (went_more store old mid new (looking t k) told asked s.made s.went m.session m.same m.opened m.kept m.makes.makes m.makes.count m.makes.took (is_asked k lt) refl refl (keeps_same m.makes.reads))
       (map-append (λ (o : Occurrence). o.event) s.made (last ∷ []) ∙ ap (λ (es : List CoreEvent). es ++ looking t k ∷ []) s.events_are ∙ block_more sh looking t k)
       (plain_cut_behind s.made last s.plain refl)
     where
@@ -228,7 +229,7 @@ module _ (store : StoreView) (t : ℕ) where
 
       went : Went store old new (asked ++ move ∷ []) made
       went = went_more store old mid new move told (asked ++ move ∷ []) s.made (went_wider store old mid asked (move ∷ []) s.made s.went) m.session m.same m.opened m.kept m.makes.makes m.makes.count m.makes.took
-          (among_last asked move) refl (keeps_same m.makes.reads)
+          (among_last asked move) refl refl (keeps_same m.makes.reads)
 
       planned_same : plan_of (looks_in made) ≡ pair ∷ pairs
       planned_same = ap plan_of (filter_map-append (λ (o : Occurrence). look_told o.event o.reply) s.made (last ∷ []) ∙ append-nil (looks_in s.made) ∙ sym s.told.looks_are) ∙ plan

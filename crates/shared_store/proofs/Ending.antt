@@ -20,7 +20,7 @@ use Rattle.store_laws.specs.Logs.{log_of, made_in, store_meaning}
 use Rattle.store_laws.specs.Own.{parts_after}
 use Rattle.event_spec.specs.Replay.{IsLawfulLog}
 use Rattle.shared_store.specs.Lending.{EndsLend, HasImage, HasLent, LendView}
-use Rattle.shared_store.specs.Store.{HandsView, IsAt, IsSession, IsWithin, SeatView, StoreView, own_of, seen, shape_in, view_of, reads_of}
+use Rattle.shared_store.specs.Store.{HandsView, IsAt, IsSession, IsWithin, SeatView, StoreView, own_of, seen, shape_in, view_of, Notes, notes_of}
 use Rattle.shared_store.specs.declared.session.Session.{Session}
 use Rattle.shared_store.proofs.Lent.{claim_tells, image_there, left_holds, left_within, rows_stay}
 use Rattle.shared_store.proofs.Open.{sees_on as stays_on}
@@ -30,7 +30,7 @@ use Rattle.shared_store.specs.Reads.{ReadsFit}
 module _ (store : StoreView) (old new : Session) (lend : LendView) (t : SeatView) (hands : HandsView) (is : IsSession store old)
     (there : IsPass (store_meaning (shape_in store)) store.id t hands) (looks : Looks (store_meaning (shape_in store)) old.pass.seat t) (held : hands ≡ old.pass.hands)
     (gone : IsPass (store_meaning (shape_in store)) store.id new.pass.seat new.pass.hands) (view : new.pass.seat.me.0 ≡ left t.me.0) (kept : new.pass.hands ≡ hands)
-    (same : new.session ≡ old.session) (opened : own_of new ≡ own_of old) (kept_reads : reads_of new ≡ reads_of old) (took : t.me.0.taken ≡ old.pass.seat.me.0.taken) (anew : t.me.0.looks ≡ old.pass.seat.me.0.looks + 1)
+    (same : new.session ≡ old.session) (opened : own_of new ≡ own_of old) (kept_notes : notes_of new ≡ notes_of old) (took : t.me.0.taken ≡ old.pass.seat.me.0.taken) (anew : t.me.0.looks ≡ old.pass.seat.me.0.looks + 1)
   where
     -- The look shows what was made since.
     on : SeesOn (shape_in store) old.session old.pass.seat.me.0 t.me.0 (own_of old)
@@ -51,7 +51,7 @@ module _ (store : StoreView) (old new : Session) (lend : LendView) (t : SeatView
         (subst (IsAt store old.session new.pass.seat new.pass.hands) (sym opened) (record {
           within = behind;
           empty = subst (λ (hs : HandsView). (k : ℕ) → ¬ Holds (first_of hs) k) (sym (kept ∙ held)) is.stands.empty;
-        }))) (subst (ReadsFit (shape_in store)) (sym kept_reads) is.fits)
+        }))) (subst (λ (notes : Notes). ReadsFit (shape_in store) notes.reads) (sym kept_notes) is.fits)
 
     log : new.pass.seat.me.0.log ≡ t.me.0.log
     log = ap (λ (v : View CoreEvent). v.log) view
@@ -91,7 +91,7 @@ module _ (store : StoreView) (old new : Session) (lend : LendView) (t : SeatView
       session = session;
       same = same;
       opened = opened;
-      kept = kept_reads;
+      kept = kept_notes;
       sees = goes;
       own = own;
       made = ap (λ (es : List (Entry CoreEvent)). length es) (ap (λ (v : View CoreEvent). v.mine) view ∙ looks.1.mine);

@@ -25,7 +25,8 @@ use Rattle.store_laws.proofs.Stretches.{nothing_is_a_stretch}
 use Rattle.run_spec.specs.Asked.{rows_sealed}
 use Rattle.shared_store.specs.Freezing.{Imaged as ImagedAny, ImagedHeld, Images, ImagesHeld, IsImageThere, MakesNone, MayImageHeld, imaging}
 use Rattle.shared_store.specs.Making.{Gives, Makes, MayMakeHeld, Takes, parts_seen}
-use Rattle.shared_store.specs.Store.{Answers, HandsView, IsAt, IsSession, IsTouched, IsWithin, SeatView, StoreView, TookPartsOf, own_of, seen, shape_in, KeepsReads, reads_of}
+use Rattle.shared_store.specs.Store.{Answers, HandsView, IsAt, IsSession, IsTouched, IsWithin, SeatView, StoreView, TookPartsOf, own_of, seen, shape_in, KeepsNotes, Notes, reads_of, wrote_of}
+use Rattle.shared_store.proofs.Noted.{one_none, unwritten}
 use Rattle.shared_store.proofs.Hands.{agrees_with}
 use Rattle.shared_store.proofs.Made.{fronts, made_whole, one_hand}
 use Rattle.run_spec.specs.Handed.{GoesOn, own_in}
@@ -173,23 +174,25 @@ imaged_all store session s t u w hands later ended own table block None takes he
 
 -- a gathering of one event answers with the line that the event tells
 pub gathered_whole : (store : StoreView) (s new : Session) (table block : ℕ) (told : CoreReply) (line : Said) → IsSession store s
-    → Images store s.session s.pass.seat new.pass.seat new.pass.hands (own_of s) table block told → new.session ≡ s.session → own_of new ≡ own_of s → KeepsReads store s new
+    → Images store s.session s.pass.seat new.pass.seat new.pass.hands (own_of s) table block told → new.session ≡ s.session → own_of new ≡ own_of s → KeepsNotes store s new
     → ((reads : Option ReadSet) → reads_behind reads (Gather table block) line ≡ reads)
     → TellsLine (own_of s) (Gather table block) told line → IsSession store new × Answers store s new (Gather table block) line
 gathered_whole store s new table block told line is images same opened kept unread tells =
-    one_event_at store s new (Gather table block) (imaging table block images.image) told line is refl images.makes same opened (kept.0 ∙ sym (unread (reads_of s))) kept.1 refl
+    one_event_at store s new (Gather table block) (imaging table block images.image) told line is refl images.makes same opened (ap (λ (notes : Notes). notes.reads) kept.0 ∙ sym (unread (reads_of s)))
+    (ap (λ (notes : Notes). notes.wrote) kept.0 ∙ sym (unwritten (occurrence_at s.session (parts_after (shape_in store) images.makes.makes.before) (imaging table block images.image) told ∷ []) (λ w. one_none (occurrence_at s.session (parts_after (shape_in store) images.makes.makes.before) (imaging table block images.image) told) refl w) (wrote_of s))) kept.1 refl
     (ap (λ image. imaging table block image ∷ []) (sym images.there)) tells
 
 -- a gathering that made no event for want of memory answers so
 pub gathered_none : (store : StoreView) (s new : Session) (table block : ℕ) → IsSession store s
-    → MakesNone store s.session s.pass.seat new.pass.seat new.pass.hands (own_of s) table block → new.session ≡ s.session → own_of new ≡ own_of s → KeepsReads store s new
+    → MakesNone store s.session s.pass.seat new.pass.seat new.pass.hands (own_of s) table block → new.session ≡ s.session → own_of new ≡ own_of s → KeepsNotes store s new
     → IsSession store new × Answers store s new (Gather table block) said.Memory
 gathered_none store s new table block is none same opened kept = (
   session_is store new (subst (λ q. IsAt store q new.pass.seat new.pass.hands (own_of new)) (sym same)
       (subst (IsAt store s.session new.pass.seat new.pass.hands) (sym opened) none.stands)) kept.1,
   record {
     made = [];
-    keeps = kept.0;
+    keeps = ap (λ (notes : Notes). notes.reads) kept.0;
+    wrote = ap (λ (notes : Notes). notes.wrote) kept.0 ∙ sym (unwritten [] (λ w. refl) (wrote_of s));
     called = record {
       stretch = nothing_is_a_stretch (shape_in store) s.session (seen s) (seen new) none.sees.goes_on none.sees.same;
       is_call = (unmade_call (shape_in store) s.session (seen s) (own_of s) is.own (reads_of s) (Gather table block) refl refl).is_call;

@@ -13,7 +13,9 @@ pub mod Kept
 pub mod Latched
 pub mod Made
 pub mod Maps
+pub mod Noted
 pub mod Observed
+pub mod OwnCommits
 pub mod Pruned
 pub mod Ranged
 pub mod ReadSets

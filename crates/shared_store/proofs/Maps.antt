@@ -8,24 +8,10 @@ use Rattle.std.specs.Map.{remove_entry}
 use Rattle.std.specs.Set.{remove_key}
 use Rattle.std.specs.Ordering.{is_eq, match_ordering, ordering_reverse}
 use Rattle.core_laws.proofs.Events.Slots.{num, num_refl}
-use Rattle.isolation_laws.proofs.Rows.{place_cmp-total}
 use Rattle.isolation_spec.specs.Contents.{PlaceMap, at_place, is_place, place_cmp}
 use Rattle.isolation_spec.specs.declared.place.Place.{Place}
+use Rattle.kept_commits.proofs.Places.{itself, laid_away, same}
 use Rattle.shared_store.specs.Writing.{roomed}
-
--- An answer that is its own reverse is equal.
-self_equal : (r : Ordering) → r ≡ ordering_reverse r → r ≡ Equal
-self_equal Less h = absurd (let never : ⊥ = cc in never)
-self_equal Equal h = refl
-self_equal Greater h = absurd (let never : ⊥ = cc in never)
-
--- A place compares as equal to itself.
-same : (p : Place) → place_cmp p p ≡ Equal
-same p = self_equal (place_cmp p p) (place_cmp-total.antisymm p p)
-
--- A place is tested as the same as itself.
-itself : (p : Place) → is_place p p ≡ true
-itself p = ap is_eq (same p)
 
 -- the last of two values laid at one place stands
 pub twice_laid : (m : PlaceMap ℕ) (p : Place) (one other : ℕ) → insert_entry place_cmp (insert_entry place_cmp m p one) p other ≡ insert_entry place_cmp m p other
@@ -40,22 +26,6 @@ twice_laid (e ∷ m) p one other = go (place_cmp p e.0) refl (twice_laid m p one
     go Greater is rest =
         ap (λ r. match_ordering r ((p, other) ∷ e ∷ insert_entry place_cmp m p one) ((e.0, other) ∷ insert_entry place_cmp m p one) (e ∷ insert_entry place_cmp (insert_entry place_cmp m p one) p other)) is
         ∙ ap (λ (es : PlaceMap ℕ). e ∷ es) rest
-
--- what was laid at a place where nothing lay is taken away again
-pub laid_away : (m : PlaceMap ℕ) (p : Place) (one : ℕ) → at_place m p ≡ None → remove_entry (is_place p) (insert_entry place_cmp m p one) ≡ m
-laid_away [] p one none' = ap (λ b. cond b [] ((p, one) ∷ [])) (itself p)
-laid_away (e ∷ m) p one none' = go (place_cmp p e.0) refl none' (laid_away m p one)
-  where
-    some_none : (x : ℕ) → Some x ≡ None → ⊥
-    some_none x h = cc
-
-    go : (r : Ordering) → place_cmp p e.0 ≡ r → cond (is_eq r) (Some e.1) (at_place m p) ≡ None → (at_place m p ≡ None → remove_entry (is_place p) (insert_entry place_cmp m p one) ≡ m)
-        → remove_entry (is_place p) (match_ordering r ((p, one) ∷ e ∷ m) ((e.0, one) ∷ m) (e ∷ insert_entry place_cmp m p one)) ≡ e ∷ m
-    go Less is gone later = ap (λ b. cond b (e ∷ m) ((p, one) ∷ remove_entry (is_place p) (e ∷ m))) (itself p)
-    go Equal is gone later = absurd (some_none e.1 gone)
-    go Greater is gone later =
-        ap (λ r. cond (is_eq r) (insert_entry place_cmp m p one) (e ∷ remove_entry (is_place p) (insert_entry place_cmp m p one))) is
-        ∙ ap (λ (es : PlaceMap ℕ). e ∷ es) (later gone)
 
 -- a place that a set did not have is taken out again
 pub taken_out : (places : List Place) (p : Place) → list_any (is_place p) places ≡ false → remove_key (is_place p) (insert_key place_cmp places p) ≡ places

@@ -39,7 +39,7 @@ module _ (store : StoreView) where
       → ObservesMore store old new (map (observing t) (below (b + 1))) (count + more)
   observes_on old mid new t b count more turned so m has is =
       sweeps_block store (at_all_blocks (shape_in store) observing) HaveTurned observing old mid new t b count more (reply.Turned turned) so m
-      (block_among (shape_in store) observing t b has) refl refl refl (turned_more t b more turned is)
+      (block_among (shape_in store) observing t b has) refl refl refl refl (turned_more t b more turned is)
 
   -- a session that observed all blocks answers with how many turned cooling
   pub observes_whole : (old new : Session) (count : ℕ) → IsSession store old → Observes store old new (at_all_blocks (shape_in store) observing) count

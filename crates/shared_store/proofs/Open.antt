@@ -123,9 +123,9 @@ shut_of s h = go s.snapshot h
     go (Some x) h = refl
 
 -- a session as it was, but for the room of its writes
-pub nothing_made : (store : StoreView) (s : Session) (writes : PlaceMap ℕ) → StaysOpen store s (record { pass = s.pass; session = s.session; snapshot = s.snapshot; writes = writes; reads = s.reads })
+pub nothing_made : (store : StoreView) (s : Session) (writes : PlaceMap ℕ) → StaysOpen store s (record { pass = s.pass; session = s.session; snapshot = s.snapshot; writes = writes; reads = s.reads; kept = s.kept })
 nothing_made store s writes commits own o = record {
-  busy = busy_of (record { pass = s.pass; session = s.session; snapshot = s.snapshot; writes = writes; reads = s.reads }) (shut_of s o.busy);
+  busy = busy_of (record { pass = s.pass; session = s.session; snapshot = s.snapshot; writes = writes; reads = s.reads; kept = s.kept }) (shut_of s o.busy);
   has = o.has;
 }
 

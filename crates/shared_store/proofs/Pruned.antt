@@ -77,7 +77,7 @@ module _ (store : StoreView) (oldest : ℕ) where
   pub prunes_begin : (old new : Session) → IsSession store old → AsksOldest store old new oldest → Prunes store oldest old new (event.Oldest ∷ []) 0
   prunes_begin old new is asks =
       sweeps_on store asked (λ made. made ≡ []) (HaveDropped oldest 0) old old new [] event.Oldest (reply.Oldest oldest)
-      (sweeps_nothing store asked (λ made. made ≡ []) old is refl) asks (inl refl) refl refl refl
+      (sweeps_nothing store asked (λ made. made ≡ []) old is refl) asks (inl refl) refl refl refl refl
       (λ parts made none'. subst (λ (xs : List Occurrence). HaveDropped oldest 0 (xs ++ occurrence_at old.session parts event.Oldest (reply.Oldest oldest) ∷ [])) (sym none')
       (record { stamps = refl; counted = refl }))
 
@@ -105,7 +105,7 @@ module _ (store : StoreView) (oldest : ℕ) where
       → PrunesMore store oldest old new (map (pruning oldest t) (below (b + 1))) (count + more)
   prunes_on old mid new t b count more so m has =
       sweeps_block store asked (HaveDropped oldest) (pruning oldest) old mid new t b count more (reply.Dropped more) so m
-      (inr (block_among (shape_in store) (pruning oldest) t b has)) refl refl refl (dropped_more t b more)
+      (inr (block_among (shape_in store) (pruning oldest) t b has)) refl refl refl refl (dropped_more t b more)
 
   -- all of them
   pub prunes_whole : (old new : Session) (count : ℕ) → IsSession store old → Prunes store oldest old new asked count → Answers store old new Prune (said.Pruned count)

@@ -34,7 +34,9 @@ use Rattle.shared_store.specs.Making.{Makes, ReadsFew}
 use Rattle.shared_store.specs.Open.{FindsBetween}
 use Rattle.shared_store.specs.Ranging.{MakesRange, MayFindRange, ReadsRange, range_read}
 use Rattle.shared_store.specs.Reads.{ReadsFit}
-use Rattle.shared_store.specs.Store.{Answers, HandsView, IsAt, IsSession, MakesAtMost, SeatView, StoreView, own_of, reads_of, seen, shape_in}
+use Rattle.shared_store.specs.Store.{Answers, HandsView, IsAt, IsSession, MakesAtMost, SeatView, StoreView, own_of, reads_of, seen, shape_in, wrote_of}
+use Rattle.shared_store.specs.Commits.{written_behind}
+use Rattle.shared_store.proofs.Noted.{noted, one_none, unwritten}
 use Rattle.shared_store.specs.Told.{scanned_told}
 use Rattle.shared_store.specs.declared.session.Session.{Session}
 use Rattle.shared_store.proofs.BlockReads.{range_fits}
@@ -133,7 +135,7 @@ reads_told reads range (Err memory) = refl
 module _ (store : StoreView) (s new : Session) (own : OwnTransaction) (range : KeyRange) (told : CoreReply)
     (is : IsSession store s) (some' : own_of s ≡ Some own) (has : HasTable (shape_in store) range.table)
     (m : Makes store s.session s.pass.seat new.pass.seat new.pass.hands (own_of s) (ranging own range.table range.low range.high) told)
-    (same : new.session ≡ s.session) (kept : own_of new ≡ own_of s) where
+    (same : new.session ≡ s.session) (kept : own_of new ≡ own_of s) (wrote : wrote_of new ≡ wrote_of s) where
   abbrev e : CoreEvent
   e = ranging own range.table range.low range.high
 
@@ -149,6 +151,9 @@ module _ (store : StoreView) (s new : Session) (own : OwnTransaction) (range : K
   granted : refusal_of asked (own_of s) ≡ None
   granted = ap (refusal_of asked) some'
 
+  still_wrote : (parts : Parts) → wrote_of new ≡ written_behind (occurrence_at s.session parts e told ∷ []) (wrote_of s)
+  still_wrote parts = wrote ∙ sym (unwritten (occurrence_at s.session parts e told ∷ []) (one_none (occurrence_at s.session parts e told) refl) (wrote_of s))
+
   -- it is one
   pub behind : ReadsFit (shape_in store) (reads_of new) → IsSession store new
   behind fits = session_is store new (subst (λ q. IsAt store q new.pass.seat new.pass.hands (own_of new)) (sym same)
@@ -158,7 +163,7 @@ module _ (store : StoreView) (s new : Session) (own : OwnTransaction) (range : K
   module _ (listed rows : List Row) (listing : told ≡ reply.Rows listed) (ordered : rows ≡ in_key_order range.table listed)
       (read : reads_of new ≡ reads_behind (reads_of s) asked (said.Scanned rows)) (fits : ReadsFit (shape_in store) (reads_of new)) where
     pub answers_rows : Answers store s new asked (said.Scanned rows)
-    answers_rows = (one_event store s new asked e told (said.Scanned rows) is refl m same kept read fits granted asks
+    answers_rows = (one_event store s new asked e told (said.Scanned rows) is refl m same kept read still_wrote fits granted asks
         (line_is (own_of s) range.table range.low range.high told listed rows listing ordered)).1
 
     pub reads_rows : (spent steps : ℕ) → ReadsFew (shape_in store) new.pass.seat.me.0 e told spent steps → ReadsRange store s new range.table range.low range.high (said.Scanned rows) spent steps
@@ -171,7 +176,7 @@ module _ (store : StoreView) (s new : Session) (own : OwnTransaction) (range : K
   -- there was no memory for the event
   module _ (memory : told ≡ reply.Memory) (read : reads_of new ≡ reads_of s) (fits : ReadsFit (shape_in store) (reads_of new)) where
     pub answers_memory : Answers store s new asked said.Memory
-    answers_memory = (one_event store s new asked e told said.Memory is refl m same kept read fits granted asks
+    answers_memory = (one_event store s new asked e told said.Memory is refl m same kept read still_wrote fits granted asks
         (subst (λ (r : CoreReply). TellsLine (own_of s) asked r said.Memory) (sym memory) (refl, refl))).1
 
     pub reads_memory : (spent steps : ℕ) → ReadsFew (shape_in store) new.pass.seat.me.0 e told spent steps → ReadsRange store s new range.table range.low range.high said.Memory spent steps
@@ -198,7 +203,7 @@ module _ (store : StoreView) (s new : Session) (own : OwnTransaction) (range : K
 
     pub answers_unlaid : Answers store s new asked said.Memory
     answers_unlaid = went_call store s new asked (e ∷ []) (last ∷ []) said.Memory is
-        (went_more store s s new e told (e ∷ []) [] (went_nowhere store s (e ∷ []) is) (behind fits) same kept read m.makes m.count m.took (inl refl) refl (keeps_same m.reads))
+        (went_more store s s new e told (e ∷ []) [] (went_nowhere store s (e ∷ []) is) (behind fits) same kept (noted s new read wrote) m.makes m.count m.took (inl refl) refl refl (keeps_same m.reads))
         (asks (last ∷ [])) granted refl (inr part)
 
     pub reads_unlaid : (spent steps : ℕ) → ReadsFew (shape_in store) new.pass.seat.me.0 e told spent steps → ReadsRange store s new range.table range.low range.high said.Memory spent steps
@@ -221,7 +226,7 @@ pub record RangesBy {E : Type 0} (store : StoreView) (s new : Session) (range : 
 
 module _ {E : Type 0} (store : StoreView) (s new : Session) (own : OwnTransaction) (range : KeyRange) (spent steps : ℕ)
     (is : IsSession store s) (some' : own_of s ≡ Some own) (mine : own.session ≡ s.session) (has : HasTable (shape_in store) range.table)
-    (same : new.session ≡ s.session) (kept : own_of new ≡ own_of s) (busy : is_some (own_of new) ≡ true) where
+    (same : new.session ≡ s.session) (kept : own_of new ≡ own_of s) (wrote : wrote_of new ≡ wrote_of s) (busy : is_some (own_of new) ≡ true) where
   -- Its event was made.
   ranges_made : (found : Result (List Row) E) → MakesRange store s.pass.seat s.pass.hands new.pass.seat new.pass.hands range.table (ranging own range.table range.low range.high) spent steps found
       → reads_of new ≡ range_read range found (reads_of s) → RangesBy store s new range spent steps found
@@ -239,22 +244,22 @@ module _ {E : Type 0} (store : StoreView) (s new : Session) (own : OwnTransactio
 
       memory : (err : E) → Listing → reads_of new ≡ reads_of s → ReadsFit (shape_in store) (reads_of new) → RangesBy store s new range spent steps (Err err)
       memory err (inl none') read fits = record {
-        session = behind store s new own range made.told is some' has m same kept fits;
+        session = behind store s new own range made.told is some' has m same kept wrote fits;
         same = same;
-        answers = answers_memory store s new own range made.told is some' has m same kept none' read fits;
-        finds = finds_no_range store s new own range.table range.low range.high err is (behind store s new own range made.told is some' has m same kept fits) same
+        answers = answers_memory store s new own range made.told is some' has m same kept wrote none' read fits;
+        finds = finds_no_range store s new own range.table range.low range.high err is (behind store s new own range made.told is some' has m same kept wrote fits) same
             (subst (λ (r : CoreReply). MakesOne (shape_in store) s.session (seen s) (seen new) (ranging own range.table range.low range.high) r) none' m.makes) busy;
         few = few;
-        looked = reads_memory store s new own range made.told is some' has m same kept none' read fits spent steps made.few;
+        looked = reads_memory store s new own range made.told is some' has m same kept wrote none' read fits spent steps made.few;
       }
       memory err (inr listing) read fits = record {
-        session = behind store s new own range made.told is some' has m same kept fits;
+        session = behind store s new own range made.told is some' has m same kept wrote fits;
         same = same;
-        answers = answers_unlaid store s new own range made.told is some' has m same kept _ listing read fits;
-        finds = finds_unranged store s new own range.table range.low range.high _ err is (behind store s new own range made.told is some' has m same kept fits) same mine
+        answers = answers_unlaid store s new own range made.told is some' has m same kept wrote _ listing read fits;
+        finds = finds_unranged store s new own range.table range.low range.high _ err is (behind store s new own range made.told is some' has m same kept wrote fits) same mine
             (subst (λ (r : CoreReply). MakesOne (shape_in store) s.session (seen s) (seen new) (ranging own range.table range.low range.high) r) listing m.makes) busy;
         few = few;
-        looked = reads_unlaid store s new own range made.told is some' has m same kept _ listing read fits spent steps made.few;
+        looked = reads_unlaid store s new own range made.told is some' has m same kept wrote _ listing read fits spent steps made.few;
       }
 
       go : (found : Result (List Row) E) → IfOk found (λ rows. (listed : List Row) × (made.told ≡ reply.Rows listed) × (rows ≡ in_key_order range.table listed))
@@ -262,13 +267,13 @@ module _ {E : Type 0} (store : StoreView) (s new : Session) (own : OwnTransactio
           → range_read range found (reads_of s) ≡ reads_behind (reads_of s) (command.Range range.table range.low range.high) (scanned_told found)
           → ReadsFit (shape_in store) (reads_of new) → RangesBy store s new range spent steps found
       go (Ok rows) listing read tells fits = record {
-        session = behind store s new own range made.told is some' has m same kept fits;
+        session = behind store s new own range made.told is some' has m same kept wrote fits;
         same = same;
-        answers = answers_rows store s new own range made.told is some' has m same kept listing.0 rows listing.1 listing.2 (read ∙ tells) fits;
-        finds = finds_range store s new own range.table range.low range.high listing.0 rows is (behind store s new own range made.told is some' has m same kept fits) same mine
+        answers = answers_rows store s new own range made.told is some' has m same kept wrote listing.0 rows listing.1 listing.2 (read ∙ tells) fits;
+        finds = finds_range store s new own range.table range.low range.high listing.0 rows is (behind store s new own range made.told is some' has m same kept wrote fits) same mine
             (subst (λ (r : CoreReply). MakesOne (shape_in store) s.session (seen s) (seen new) (ranging own range.table range.low range.high) r) listing.1 m.makes) busy listing.2;
         few = few;
-        looked = reads_rows store s new own range made.told is some' has m same kept listing.0 rows listing.1 listing.2 (read ∙ tells) fits spent steps made.few;
+        looked = reads_rows store s new own range made.told is some' has m same kept wrote listing.0 rows listing.1 listing.2 (read ∙ tells) fits spent steps made.few;
       }
       go (Err err) listing read tells fits = memory err (range_told store s.session s.pass.seat new.pass.seat new.pass.hands (own_of s) own range.table range.low range.high made.told m) read fits
 

@@ -18,7 +18,7 @@ use Rattle.workload_spec.specs.declared.reply.Said.TheVariants as said
 use Rattle.shared_store.specs.Open.{FindsRows}
 use Rattle.shared_store.specs.Ranging.{range_read}
 use Rattle.shared_store.specs.Reads.{ReadsFit, read_by, reads_begun, with_one}
-use Rattle.shared_store.specs.Store.{IsSession, KeepsReads, StoreView, reads_of, shape_in, swept}
+use Rattle.shared_store.specs.Store.{IsSession, KeepsNotes, Notes, StoreView, notes_of, reads_of, shape_in, swept}
 use Rattle.shared_store.specs.Told.{written_told}
 use Rattle.shared_store.specs.declared.faults.StoreFault.{StoreFault}
 use Rattle.shared_store.specs.declared.faults.StoreFault.TheVariants as fault
@@ -81,8 +81,8 @@ got_fits shape place told reads has fits = go (is_memory told)
     go false = key_fits shape place reads has fits
 
 -- the reads of a session stay where they are the same
-pub fits_on : (store : StoreView) (old new : Session) → IsSession store old → reads_of new ≡ reads_of old → KeepsReads store old new
-fits_on store old new is same = (same, subst (ReadsFit (shape_in store)) (sym same) is.fits)
+pub fits_on : (store : StoreView) (old new : Session) → IsSession store old → notes_of new ≡ notes_of old → KeepsNotes store old new
+fits_on store old new is same = (same, subst (λ (notes : Notes). ReadsFit (shape_in store) notes.reads) (sym same) is.fits)
 
 -- a session that has read a table is one
 pub swept_session : (store : StoreView) (s : Session) (table : ℕ) → HasTable (shape_in store) table → IsSession store s → IsSession store (swept table s)

@@ -24,7 +24,7 @@ use Rattle.store_laws.specs.Logs.{log_of, store_meaning}
 use Rattle.store_laws.specs.Own.{StandsUnder, parts_after}
 use Rattle.shared_store.specs.Keeping.{GivesPart, IsKeeping, IsOnBlock, Keeps, MakesAnyKeeping, MakesKeeping, rested, rested_hands, rested_seat}
 use Rattle.shared_store.specs.Making.{Gives, Makes, MakesHeld, Takes}
-use Rattle.shared_store.specs.Store.{EndsWithLast, HandsView, IsAt, IsSession, IsWithin, KeepsLend, SeatView, StoreView, TookPartsOf, own_of, seen, shape_in, taken_by, KeepsReads, reads_of}
+use Rattle.shared_store.specs.Store.{EndsWithLast, HandsView, IsAt, IsSession, IsWithin, KeepsLend, SeatView, StoreView, TookPartsOf, own_of, seen, shape_in, taken_by, KeepsNotes, reads_of}
 use Rattle.shared_store.specs.Sweeping.{MakesAlone, Sweeps, SweepsMore}
 use Rattle.shared_store.specs.declared.session.Session.{Session}
 use Rattle.shared_store.proofs.Kept.{body_touched, covers_with, hand_room, keeps_without, rested_at}
@@ -157,7 +157,7 @@ kept_on store common block old new e told m same opened fits stays = record {
 -- an event that was made with parts kept was made alone by the session as if it kept none
 pub alone_kept : (store : StoreView) (common : Name → Bool) (old new : Session) (e : CoreEvent) (told said : CoreReply)
     → MakesKeeping store old.session old.pass.seat new.pass.seat new.pass.hands (own_of old) common e told → told ≡ said
-    → new.session ≡ old.session → own_of new ≡ own_of old → KeepsReads store old new → own_behind (own_of old) e told ≡ own_of old → MakesAlone store (rested old) (rested new) e said
+    → new.session ≡ old.session → own_of new ≡ own_of old → KeepsNotes store old new → own_behind (own_of old) e told ≡ own_of old → MakesAlone store (rested old) (rested new) e said
 alone_kept store common old new e told said m is same opened kept stays = made_alone store (rested old) (rested new) e told said made is same opened kept stays
   where
     made : Makes store old.session (rested_seat old.pass.seat) (rested_seat new.pass.seat) (rested_hands new.pass.hands) (own_of old) e told
@@ -180,7 +180,7 @@ given_session store mid new same opened fits gives = session_is store new
 
 -- what a session made it made also as one that knows the same
 pub sweeps_same : (store : StoreView) (asked : List CoreEvent) (tells : List Occurrence → Type 0) (first mid new : Session) (events : List CoreEvent)
-    → Sweeps store asked tells first mid events → IsSession store new → new.session ≡ mid.session → own_of new ≡ own_of mid → reads_of new ≡ reads_of mid
+    → Sweeps store asked tells first mid events → IsSession store new → new.session ≡ mid.session → own_of new ≡ own_of mid → notes_of new ≡ notes_of mid
     → new.pass.seat.me.0.log ≡ mid.pass.seat.me.0.log → new.pass.seat.me.0.mine ≡ mid.pass.seat.me.0.mine → new.pass.seat.me.0.taken ≡ mid.pass.seat.me.0.taken
     → KeepsLend mid.pass.seat.me.0 new.pass.seat.me.0
     → Sweeps store asked tells first new events
@@ -191,6 +191,7 @@ sweeps_same store asked tells first mid new events s is same opened kept log min
     same = same ∙ s.went.same;
     opened = opened ∙ s.went.opened;
     kept = kept ∙ s.went.kept;
+    unwritten = s.went.unwritten;
     stretch = subst (λ (l : List (Entry CoreEvent)). Stretch (shape_in store) first.session (seen first) (log_of l) s.made) (sym log) s.went.stretch;
     count = ap (λ (es : List (Entry CoreEvent)). length es) mine ∙ s.went.count;
     ends = subst (λ (l : List (Entry CoreEvent)). EndsWithLast s.made (log_of l)) (sym log) s.went.ends;
@@ -213,7 +214,7 @@ module _ (store : StoreView) (asked : List CoreEvent) (tells : ℕ → List Occu
 
   -- and when it did
   pub sweeps_given : (old mid new : Session) (events : List CoreEvent) (count : ℕ) → SweepsMore store asked tells old (rested mid) events count
-      → new.session ≡ mid.session → own_of new ≡ own_of mid → KeepsReads store mid new → Gives store mid.session mid.pass.seat new.pass.seat new.pass.hands (own_of mid)
+      → new.session ≡ mid.session → own_of new ≡ own_of mid → KeepsNotes store mid new → Gives store mid.session mid.pass.seat new.pass.seat new.pass.hands (own_of mid)
       → SweepsMore store asked tells old new events count
   sweeps_given old mid new events count so same opened kept gives first front before s =
       sweeps_same store asked (tells (before + count)) first (rested mid) new (front ++ events) (so first front before s)

@@ -211,6 +211,11 @@ pub ok_is : {T E : Type 0} (P : T → Type 0) (r : Result T E) (x : T) → IfOk 
 ok_is P (Ok s) x is holds = subst P (sym is) holds
 ok_is P (Err e) x is holds = tt
 
+-- what holds of one that may be made holds of it by a law
+pub ok_on : {T E : Type 0} {P Q : T → Type 0} (r : Result T E) → ((x : T) → P x → Q x) → IfOk r P → IfOk r Q
+ok_on (Ok x) law holds = law x holds
+ok_on (Err e) law holds = tt
+
 -- ---- rows
 
 -- the last sessions of a row of so many, from the greatest down
@@ -286,13 +291,12 @@ row_parted store sessions workers row front back is front_is back_is = (
 
 -- ---- a store that was just built
 
-module _ (hall : StoreView) (core : CoreState) (tables : List TableDecl) (sessions : ℕ)
-    (shape_is : core.shape ≡ record { tables = tables; passes = sessions; first = [] })
+module _ (hall : StoreView) (core : CoreState) (sessions : ℕ) (count : core.shape.passes ≡ sessions)
     (opening_is : IsOpening core.shape core.parts)
     (of : (hall.core ≡ core) × (hall.passes ≡ sessions) × (hall.shape ≡ core.shape))
   where
     passes_are : hall.core.shape.passes ≡ sessions
-    passes_are = ap (λ (x : CoreState). x.shape.passes) of.0 ∙ ap (λ (s : Shape). s.passes) shape_is
+    passes_are = ap (λ (x : CoreState). x.shape.passes) of.0 ∙ count
 
     -- a hall that was built of a core before its first event is a store
     pub is_store : IsStore hall
@@ -305,7 +309,7 @@ module _ (hall : StoreView) (core : CoreState) (tables : List TableDecl) (sessio
     built_meaning : core_meaning core.shape core.parts sessions ≡ store_meaning (shape_in hall)
     built_meaning =
         ap (λ (s : Parts). core_meaning core.shape s sessions) opening_is.parts_are
-        ∙ ap (λ n. core_meaning core.shape (opening core.shape) n) (sym (ap (λ (s : Shape). s.passes) shape_is))
+        ∙ ap (λ n. core_meaning core.shape (opening core.shape) n) (sym count)
         ∙ ap (λ (x : CoreState). store_meaning x.shape) (sym of.0)
 
     -- its first pass has all sessions

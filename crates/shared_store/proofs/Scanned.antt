@@ -37,7 +37,8 @@ use Rattle.shared_store.specs.Scanning.{ArePlain, ReadsOnce, Scans, scan_cost}
 use Rattle.std.proofs.lemmas.List.Elements.{All-append, All-nil}
 use Rattle.cell_model.specs.Rows.{Fits}
 use Rattle.event_spec.specs.Replay.{columns_in}
-use Rattle.shared_store.specs.Store.{Answers, EndsWithLast, IsSession, IsTouched, KeepsLend, StoreView, TookPartsOf, own_of, seen, shape_in, taken_by, events_made, view_of, reads_of, swept}
+use Rattle.shared_store.specs.Store.{Answers, EndsWithLast, IsSession, IsTouched, KeepsLend, StoreView, TookPartsOf, own_of, seen, shape_in, taken_by, events_made, view_of, reads_of, swept, Notes, notes_of, wrote_of}
+use Rattle.shared_store.proofs.Noted.{none_both, one_none, unwritten, writes_none}
 use Rattle.shared_store.specs.declared.session.Session.{Session}
 use Rattle.shared_store.proofs.Calls.{ends_call, took_none}
 use Rattle.shared_store.proofs.Claims.{keeps_on, keeps_stays}
@@ -94,6 +95,7 @@ went_nowhere store s events is = record {
   same = refl;
   opened = refl;
   kept = refl;
+  unwritten = λ w. refl;
   stretch = nothing_is_a_stretch (shape_in store) s.session (seen s) (seen s) ([], sym (append-nil (seen s))) refl;
   count = omega arith;
   ends = tt;
@@ -107,16 +109,17 @@ events_both xs ys = sum_by-append (λ (o : Occurrence). cond {A = ℕ} (is_event
 
 -- one event more, of those that the command makes
 pub went_more : (store : StoreView) (old mid new : Session) (e : CoreEvent) (told : CoreReply) (events : List CoreEvent) (made : List Occurrence)
-    → Went store old mid events made → IsSession store new → new.session ≡ mid.session → own_of new ≡ own_of mid → reads_of new ≡ reads_of mid
+    → Went store old mid events made → IsSession store new → new.session ≡ mid.session → own_of new ≡ own_of mid → notes_of new ≡ notes_of mid
     → (m : MakesOne (shape_in store) mid.session (seen mid) (seen new) e told) → events_made new ≡ events_made mid + 1
     → TookPartsOf (shape_in store) (e ∷ []) (seen mid) (seen new) (taken_by mid) (taken_by new) → Among e events
-    → reads_block e ≡ false → KeepsLend (view_of mid) (view_of new)
+    → reads_block e ≡ false → writes_none e ≡ true → KeepsLend (view_of mid) (view_of new)
     → Went store old new events (made ++ occurrence_at old.session (parts_after (shape_in store) m.before) e told ∷ [])
-went_more store old mid new e told events made w is same opened kept m one took among other keeps = record {
+went_more store old mid new e told events made w is same opened kept m one took among other quiet keeps = record {
   session = is;
   same = same ∙ w.same;
   opened = opened ∙ w.opened;
   kept = kept ∙ w.kept;
+  unwritten = none_both made (last ∷ []) w.unwritten (one_none last quiet);
   stretch = stretches_join (shape_in store) old.session (seen old) (seen mid) (seen new) made (last ∷ []) w.stretch
       (subst (λ q. Stretch (shape_in store) q (seen mid) (seen new) (occurrence_at q (parts_after (shape_in store) m.before) e told ∷ [])) w.same
       (event_stretch (shape_in store) mid.session (seen mid) (seen new) e told m unshared));
@@ -177,6 +180,7 @@ went_on store old mid new own t b told events made w r one keeps parts is = reco
   same = r.same ∙ w.same;
   opened = r.opened ∙ w.opened;
   kept = r.kept ∙ w.kept;
+  unwritten = none_both made (last ∷ []) w.unwritten (one_none last refl);
   stretch = stretches_join (shape_in store) old.session (seen old) (seen mid) (seen new) made (last ∷ []) w.stretch
       (subst (λ os. Stretch (shape_in store) old.session (seen mid) (seen new) os) here
       (subst (λ q. Stretch (shape_in store) q (seen mid) (seen new) r.made) w.same r.stretch));
@@ -214,6 +218,7 @@ unfoldable pub went_swept : (store : StoreView) (old new : Session) (read : Opti
 went_swept store old new read c events made line is w same granted keeps either = record {
   made = made;
   keeps = keeps;
+  wrote = ap (λ (notes : Notes). notes.wrote) w.kept ∙ sym (unwritten made w.unwritten (wrote_of old));
   called = record {
     stretch = w.stretch;
     is_call = subst (λ o. IsCallBy (shape_in store) false old.session o (refusal_of c o) (record { command = c; made = made; told = Some line; reads = reads_of old })) is.own
@@ -233,7 +238,7 @@ unfoldable pub went_call : (store : StoreView) (old new : Session) (c : Command)
     ⊎ IsPart (shape_in store) old.session (own_of old) (record { command = c; made = made; told = Some line; reads = reads_of old })
     → Answers store old new c line
 went_call store old new c events made line is w same granted unread either =
-    went_swept store old new (reads_of new) c events made line is w same granted (w.kept ∙ sym unread) either
+    went_swept store old new (reads_of new) c events made line is w same granted (ap (λ (notes : Notes). notes.reads) w.kept ∙ sym unread) either
 
 -- Each is a read that was granted.
 abbrev AreReads : List Occurrence → Type 0
@@ -278,7 +283,8 @@ unfoldable pub unlent_call : (store : StoreView) (old mid new : Session) (own : 
     → Answers store old new c said.Memory
 unlent_call store old mid new own t b told c events made is w r one keeps none' reads same granted part = record {
   made = made;
-  keeps = r.kept ∙ w.kept;
+  keeps = ap (λ (notes : Notes). notes.reads) (r.kept ∙ w.kept);
+  wrote = ap (λ (notes : Notes). notes.wrote) (r.kept ∙ w.kept) ∙ sym (unwritten made w.unwritten (wrote_of old));
   called = record {
     stretch = subst (Stretch (shape_in store) old.session (seen old) (seen new)) (append-nil made)
         (stretches_join (shape_in store) old.session (seen old) (seen mid) (seen new) made [] w.stretch
@@ -452,7 +458,7 @@ module _ (store : StoreView) (own : OwnTransaction) (t : ℕ) where
     unfolding went_swept
     sweep_whole new rows s line behind tells = (
       went_swept store old new (with_one (what.Table t) (reads_of new)) c asked s.made line is s.went (asks s.made) granted_here
-          (ap (with_one (what.Table t)) s.went.kept ∙ behind) (inl (record {
+          (ap (λ (notes : Notes). with_one (what.Table t) notes.reads) s.went.kept ∙ behind) (inl (record {
             events = s.events ∙ sym (asks s.made);
             granted = plain_granted s.made s.plain;
             line = tells;

@@ -34,7 +34,7 @@ use Rattle.shared_store.specs.Reading.{MayReadHeld, ReadsBlock, SeesBlock}
 use Rattle.shared_store.specs.declared.reading.SeenBlock.{SeenBlock}
 use Rattle.shared_store.specs.declared.reading.SeenBlock.TheVariants as block
 use Rattle.shared_store.specs.declared.lending.LendFault.TheVariants as fault
-use Rattle.shared_store.specs.Store.{HandsView, IsAt, IsSession, IsWithin, SeatView, StoreView, TookPartsOf, events_made, own_of, seen, shape_in, taken_by, view_of, KeepsReads}
+use Rattle.shared_store.specs.Store.{HandsView, IsAt, IsSession, IsWithin, SeatView, StoreView, TookPartsOf, events_made, own_of, seen, shape_in, taken_by, view_of, KeepsNotes}
 use Rattle.shared_store.specs.declared.lending.LendFault.{LendFault}
 use Rattle.shared_store.specs.declared.session.Session.{Session}
 use Rattle.shared_store.proofs.BlockReads.{block_few, block_fits, holds_before, told_fits}
@@ -82,7 +82,7 @@ module _ (store : StoreView) (old new : Session) (table at : ℕ) (e : CoreEvent
     (takes : Takes store old.session old.pass.seat t hands (own_of old) e)
     (lends : LendsHeld store old.session t u hands later (own_of old) table at result)
     (gives : Gives store old.session u new.pass.seat new.pass.hands (own_of old))
-    (same : new.session ≡ old.session) (opened : own_of new ≡ own_of old) (kept : KeepsReads store old new)
+    (same : new.session ≡ old.session) (opened : own_of new ≡ own_of old) (kept : KeepsNotes store old new)
   where
     log : new.pass.seat.me.0.log ≡ t.me.0.log
     log = gives.log ∙ lends.log
@@ -199,7 +199,7 @@ module _ (store : StoreView) (old new : Session) (table at : ℕ) (e : CoreEvent
 pub reads_made : (store : StoreView) (s new : Session) (own : OwnTransaction) (t b : ℕ) (told : CoreReply)
     → HasBlock (shape_in store) t b
     → Makes store s.session s.pass.seat new.pass.seat new.pass.hands (own_of s) (event.Read own t b) told → is_shared told ≡ false
-    → new.session ≡ s.session → own_of new ≡ own_of s → KeepsReads store s new → ReadsBlock store s new own t b told
+    → new.session ≡ s.session → own_of new ≡ own_of s → KeepsNotes store s new → ReadsBlock store s new own t b told
 reads_made store s new own t b told has m unshared same opened kept = record {
   session = session;
   same = same;
@@ -268,7 +268,7 @@ held_told store session t u hands later own table at told within covers loose m 
 module _ (E : Type 0) (store : StoreView) (old new : Session) (table at : ℕ) (own : OwnTransaction) (t u : SeatView) (hands later : HandsView)
     (open' : own_of old ≡ Some own) (has : HasBlock (shape_in store) table at)
     (takes : Takes store old.session old.pass.seat t hands (own_of old) (event.Read own table at))
-    (same : new.session ≡ old.session) (opened : own_of new ≡ own_of old) (kept : KeepsReads store old new)
+    (same : new.session ≡ old.session) (opened : own_of new ≡ own_of old) (kept : KeepsNotes store old new)
   where
     -- a block that was lent
     pub sees_lent : (lend : LendView) (spent : ℕ) → LendsHeld store old.session t u hands later (own_of old) table at (Ok lend) → Gives store old.session u new.pass.seat new.pass.hands (own_of old)

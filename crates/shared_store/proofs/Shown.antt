@@ -19,7 +19,7 @@ use Rattle.store_laws.proofs.Calling.{goes_far}
 use Rattle.store_laws.proofs.Entries.{log_append}
 use Rattle.store_laws.proofs.Knowing.{joins_go_on}
 use Rattle.shared_store.specs.Meeting.{Meets, Sees}
-use Rattle.shared_store.specs.Store.{IsSession, HandsView, IsAt, IsStore, SeatView, StoreView, own_of, shape_in, KeepsReads}
+use Rattle.shared_store.specs.Store.{IsSession, HandsView, IsAt, IsStore, SeatView, StoreView, own_of, shape_in, KeepsNotes}
 use Rattle.shared_store.specs.declared.session.Session.{Session}
 use Rattle.shared_store.proofs.Open.{sees_on}
 use Rattle.shared_store.proofs.Sessions.{hall_meaning, is_meaning, session_is}
@@ -115,7 +115,7 @@ saw_and_stays store session old mid new held later own saw same stands = record 
 
 -- a session whose pass has seen more
 pub meets : (store : StoreView) (old new : Session) → Sees store old.session old.pass.seat.me.0 new.pass.seat new.pass.hands (own_of old)
-    → new.session ≡ old.session → own_of new ≡ own_of old → KeepsReads store old new → Meets store old new
+    → new.session ≡ old.session → own_of new ≡ own_of old → KeepsNotes store old new → Meets store old new
 meets store old new saw same opened kept = record {
   session = later;
   same = same;

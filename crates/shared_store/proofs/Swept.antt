@@ -14,7 +14,8 @@ use Rattle.run_spec.specs.Occurrences.{Occurrence}
 use Rattle.run_spec.specs.Opened.{own_behind}
 use Rattle.store_laws.specs.Own.{occurrence_at, parts_after}
 use Rattle.shared_store.specs.Making.{Makes, MakesAny}
-use Rattle.shared_store.specs.Store.{HandsView, IsAt, IsSession, SeatView, StoreView, own_of, shape_in, KeepsReads}
+use Rattle.shared_store.proofs.Noted.{writes_none}
+use Rattle.shared_store.specs.Store.{HandsView, IsAt, IsSession, SeatView, StoreView, own_of, shape_in, KeepsNotes}
 use Rattle.shared_store.specs.Sweeping.{MakesAlone, Sweeps, SweepsMore}
 use Rattle.shared_store.specs.declared.session.Session.{Session}
 use Rattle.shared_store.proofs.Scanned.{below_more, plain_added, went_more, went_nowhere}
@@ -62,7 +63,7 @@ made_by store old seat hands e handed told is unnamed same made =
 -- it opens and ends nothing
 pub made_alone : (store : StoreView) (old new : Session) (e : CoreEvent) (told said : CoreReply)
     → Makes store old.session old.pass.seat new.pass.seat new.pass.hands (own_of old) e told → told ≡ said
-    → new.session ≡ old.session → own_of new ≡ own_of old → KeepsReads store old new → own_behind (own_of old) e told ≡ own_of old → MakesAlone store old new e said
+    → new.session ≡ old.session → own_of new ≡ own_of old → KeepsNotes store old new → own_behind (own_of old) e told ≡ own_of old → MakesAlone store old new e said
 made_alone store old new e told said m is same opened kept stays = record {
   session = session_is store new (subst (λ q. IsAt store q new.pass.seat new.pass.hands (own_of new)) (sym same)
       (subst (IsAt store old.session new.pass.seat new.pass.hands) (stays ∙ sym opened) m.stands)) kept.1;
@@ -87,12 +88,12 @@ module _ (store : StoreView) (asked : List CoreEvent) where
 
   -- one event more
   pub sweeps_on : (tells next : List Occurrence → Type 0) (first mid new : Session) (events : List CoreEvent) (e : CoreEvent) (told : CoreReply)
-      → Sweeps store asked tells first mid events → MakesAlone store mid new e told → Among e asked → is_memory told ≡ false → is_final e ≡ false → reads_block e ≡ false
+      → Sweeps store asked tells first mid events → MakesAlone store mid new e told → Among e asked → is_memory told ≡ false → is_final e ≡ false → reads_block e ≡ false → writes_none e ≡ true
       → ((parts : Parts) (made : List Occurrence) → tells made → next (made ++ occurrence_at first.session parts e told ∷ []))
       → Sweeps store asked next first new (events ++ e ∷ [])
-  sweeps_on tells next first mid new events e told s m among granted open' other adds = record {
+  sweeps_on tells next first mid new events e told s m among granted open' other quiet adds = record {
     made = s.made ++ last ∷ [];
-    went = went_more store first mid new e told asked s.made s.went m.session m.same m.opened m.kept m.makes.makes m.makes.count m.makes.took among other (keeps_same m.makes.reads);
+    went = went_more store first mid new e told asked s.made s.went m.session m.same m.opened m.kept m.makes.makes m.makes.count m.makes.took among other quiet (keeps_same m.makes.reads);
     events_are = map-append (λ (x : Occurrence). x.event) s.made (last ∷ []) ∙ ap (λ es. es ++ e ∷ []) s.events_are;
     plain = plain_added s.made last s.plain granted open';
     told = adds (parts_after (shape_in store) m.makes.makes.before) s.made s.told;
@@ -112,17 +113,17 @@ module _ (store : StoreView) (asked : List CoreEvent) where
     -- the event of one block of a table more
     pub sweeps_block : (event : ℕ → ℕ → CoreEvent) (old mid new : Session) (t b count more : ℕ) (told : CoreReply)
         → SweepsMore store asked tells old mid (map (event t) (below b)) count → MakesAlone store mid new (event t b) told
-        → Among (event t b) asked → is_memory told ≡ false → is_final (event t b) ≡ false → reads_block (event t b) ≡ false
+        → Among (event t b) asked → is_memory told ≡ false → is_final (event t b) ≡ false → reads_block (event t b) ≡ false → writes_none (event t b) ≡ true
         → ((session sum : ℕ) (parts : Parts) (made : List Occurrence) → tells sum made → tells (sum + more) (made ++ occurrence_at session parts (event t b) told ∷ []))
         → SweepsMore store asked tells old new (map (event t) (below (b + 1))) (count + more)
-    sweeps_block event old mid new t b count more told so m among granted open' other adds first front before sweeps =
+    sweeps_block event old mid new t b count more told so m among granted open' other quiet adds first front before sweeps =
         let events = map (event t) (below b) in
         let sum : (before + count) + more ≡ before + (count + more) = omega arith in
         subst (λ n. Sweeps store asked (tells n) first new (front ++ map (event t) (below (b + 1)))) sum
         (subst (λ (es : List CoreEvent). Sweeps store asked (tells ((before + count) + more)) first new es)
         (append_assoc front events (event t b ∷ []) ∙ ap (λ (es : List CoreEvent). front ++ es) (block_more (shape_in store) event t b))
         (sweeps_on (tells (before + count)) (tells ((before + count) + more)) first mid new (front ++ events) (event t b) told
-        (so first front before sweeps) m among granted open' other (λ parts made known. adds first.session (before + count) parts made known)))
+        (so first front before sweeps) m among granted open' other quiet (λ parts made known. adds first.session (before + count) parts made known)))
 
     -- those of one table more
     pub sweeps_table : (event : ℕ → ℕ → CoreEvent) (first old new : Session) (front : List CoreEvent) (t count more : ℕ)

@@ -1,5 +1,5 @@
 -- What a store is that was just built, and its row of sessions.
-use Rattle.std.specs.Prelude.{◌≡◌, ℕ, ◌+◌, ◌≤◌, List, [], None, Some, length, slice_get}
+use Rattle.std.specs.Prelude.{◌≡◌, ℕ, ◌+◌, ◌≤◌, Bool, List, [], None, Some, length, slice_get}
 pub use Rattle.engine_core.specs.Core.{MayOpen}
 use Rattle.event_spec.specs.Lawful.{transaction}
 use Rattle.hall_rule.specs.Hands.{Holds}
@@ -10,7 +10,8 @@ use Rattle.store_laws.specs.Logs.{log_of, store_meaning}
 use Rattle.store_laws.specs.Own.{StandsUnder}
 use Rattle.shared_store.specs.Making.{parts_seen}
 use Rattle.shared_store.specs.Store.{HandsView, IsFree, IsSession, SeatView, StoreView, events_made}
-use Rattle.shared_store.specs.Store.{own_of, reads_of, seen, shape_in, taken_by}
+use Rattle.shared_store.specs.Commits.{kept_first}
+use Rattle.shared_store.specs.Store.{own_of, reads_of, seen, shape_in, taken_by, wrote_of}
 use Rattle.shared_store.specs.declared.session.Session.{Session}
 
 -- The first pass, while it has the sessions 1 to `count`: it made no event and took no part, and as
@@ -39,6 +40,10 @@ pub record IsNewSession (store : StoreView) (number : ℕ) (s : Session) : Type 
   pub none : own_in (shape_in store) number (seen s) ≡ []
   pub taken : taken_by s ≡ []
   pub free : IsFree s
+
+-- It keeps its commits from now on, or it keeps none.
+abbrev pub StartsKeeping : Bool → Session → Type 0
+StartsKeeping keeps s = wrote_of s ≡ kept_first keeps
 
 -- All sessions of a store that was just built, in the order of their numbers, from 1 on.
 pub record IsNewRow (store : StoreView) (count : ℕ) (row : List Session) : Type 0 where

@@ -89,6 +89,7 @@ rested s = record {
   snapshot = s.snapshot;
   writes = s.writes;
   reads = s.reads;
+  kept = s.kept;
 }
 
 -- A session of this store, whose pass keeps parts from the block before this one on: none at the

@@ -24,7 +24,7 @@ use Rattle.store_laws.specs.Logs.{log_of}
 use Rattle.store_laws.specs.Own.{parts_after}
 use Rattle.shared_store.specs.Open.{StaysOpen}
 use Rattle.shared_store.specs.Store.{HandsView, IsFree, IsSession, IsWithin, SeatView, StoreView}
-use Rattle.shared_store.specs.Store.{events_made, own_of, reads_of, seen, shape_in, taken_by, view_of}
+use Rattle.shared_store.specs.Store.{events_made, own_of, notes_of, seen, shape_in, taken_by, view_of}
 use Rattle.shared_store.specs.declared.lending.LendFault.{LendFault}
 use Rattle.shared_store.specs.declared.lending.LendFault.TheVariants as fault
 use Rattle.shared_store.specs.declared.session.Session.{Session}
@@ -127,7 +127,7 @@ pub record LooksAt (store : StoreView) (old new : Session) (table block : ℕ) :
   pub session : IsSession store new
   pub same : new.session ≡ old.session
   pub opened : own_of new ≡ own_of old
-  pub kept : reads_of new ≡ reads_of old
+  pub kept : notes_of new ≡ notes_of old
   pub sees : GoesOn (seen old) (seen new)
   pub own : own_in (shape_in store) old.session (seen new)
       ≡ own_in (shape_in store) old.session (seen old)
@@ -156,7 +156,7 @@ pub record EndsLend (store : StoreView) (old new : Session) (lend : LendView) : 
   pub session : IsSession store new
   pub same : new.session ≡ old.session
   pub opened : own_of new ≡ own_of old
-  pub kept : reads_of new ≡ reads_of old
+  pub kept : notes_of new ≡ notes_of old
   pub sees : GoesOn (seen old) (seen new)
   pub own : own_in (shape_in store) old.session (seen new)
       ≡ own_in (shape_in store) old.session (seen old)

@@ -4,6 +4,7 @@ pub mod Changing
 pub mod Compacting
 pub mod Freezing
 pub mod Keeping
+pub mod Commits
 pub mod Lending
 pub mod Making
 pub mod Meeting

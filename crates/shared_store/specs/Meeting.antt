@@ -7,7 +7,7 @@ use Rattle.run_spec.specs.Handed.{GoesOn, own_in}
 use Rattle.store_laws.specs.Laws.{SeesOn}
 use Rattle.shared_store.specs.Open.{StaysOpen}
 use Rattle.shared_store.specs.Store.{HandsView, IsAt, IsSession, KeepsLend, SeatView, StoreView}
-use Rattle.shared_store.specs.Store.{events_made, own_of, reads_of, seen, shape_in, taken_by, view_of}
+use Rattle.shared_store.specs.Store.{events_made, own_of, notes_of, seen, shape_in, taken_by, view_of}
 use Rattle.shared_store.specs.declared.session.Session.{Session}
 
 -- ---- a pass
@@ -40,7 +40,7 @@ pub record Meets (store : StoreView) (old new : Session) : Type 0 where
   pub session : IsSession store new
   pub same : new.session ≡ old.session
   pub opened : own_of new ≡ own_of old
-  pub kept : reads_of new ≡ reads_of old
+  pub kept : notes_of new ≡ notes_of old
   pub sees : GoesOn (seen old) (seen new)
   pub own : own_in (shape_in store) old.session (seen new)
       ≡ own_in (shape_in store) old.session (seen old)

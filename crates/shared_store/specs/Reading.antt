@@ -20,11 +20,12 @@ use Rattle.run_spec.specs.Occurrences.{Occurrence}
 use Rattle.run_spec.specs.Told.{rows_told}
 use Rattle.store_laws.specs.Own.{occurrence_at}
 use Rattle.store_laws.specs.Stretches.{is_event}
+use Rattle.shared_store.specs.Commits.{WritesNothing}
 use Rattle.shared_store.specs.Lending.{EndsLend, ImagedIs, IsLendOf}
 use Rattle.shared_store.specs.Making.{IsFew, MakesHeld}
 use Rattle.shared_store.specs.Store.{EndsWithLast, HandsView, IsFree, IsSession, IsWithin}
 use Rattle.shared_store.specs.Store.{KeepsLend, SeatView, StoreView, TookPartsOf, events_made}
-use Rattle.shared_store.specs.Store.{own_of, reads_of, seen, shape_in, taken_by, view_of}
+use Rattle.shared_store.specs.Store.{own_of, notes_of, seen, shape_in, taken_by, view_of}
 use Rattle.shared_store.specs.declared.reading.SeenBlock.{SeenBlock}
 use Rattle.shared_store.specs.declared.reading.SeenBlock.TheVariants as block
 use Rattle.shared_store.specs.declared.session.Session.{Session}
@@ -90,7 +91,7 @@ pub record ReadsBlock
   pub session : IsSession store new
   pub same : new.session ≡ old.session
   pub opened : own_of new ≡ own_of old
-  pub kept : reads_of new ≡ reads_of old
+  pub kept : notes_of new ≡ notes_of old
   pub made : List Occurrence
   pub is_read : IsReadOf old.session own table at told made
   pub stretch : Stretch (shape_in store) old.session (seen old) (seen new) made
@@ -138,7 +139,8 @@ pub record Went
   pub session : IsSession store new
   pub same : new.session ≡ old.session
   pub opened : own_of new ≡ own_of old
-  pub kept : reads_of new ≡ reads_of old
+  pub kept : notes_of new ≡ notes_of old
+  pub unwritten : WritesNothing made
   pub stretch : Stretch (shape_in store) old.session (seen old) (seen new) made
   pub count : events_made new ≡ events_made old + count_by is_event made
   pub ends : EndsWithLast made (seen new)

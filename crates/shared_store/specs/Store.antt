@@ -21,6 +21,7 @@ use Rattle.isolation_spec.specs.declared.read.Read.TheVariants as read
 use Rattle.run_spec.specs.Asked.{events_of}
 use Rattle.run_spec.specs.Handed.{Called, GoesOn, own_in}
 use Rattle.run_spec.specs.Occurrences.{Logged, Occurrence}
+use Rattle.run_spec.specs.Commits.{SessionWrites, writes_of}
 use Rattle.run_spec.specs.Opened.{own_after}
 use Rattle.store_laws.specs.Logs.{log_of, made_in, store_meaning}
 use Rattle.store_laws.specs.Own.{KnowsOwn, entry_of, parts_after}
@@ -30,6 +31,7 @@ use Rattle.workload_spec.specs.declared.command.Command.{Command}
 use Rattle.workload_spec.specs.declared.reply.Said.{Said}
 use Rattle.workload_spec.specs.declared.reply.Said.TheVariants as said
 use Rattle.run_spec.specs.Calls.{is_refused, reads_behind}
+use Rattle.shared_store.specs.Commits.{without_commits, without_first, written_behind}
 use Rattle.shared_store.specs.Reads.{ReadsFit, with_one}
 use Rattle.shared_store.specs.declared.session.Session.{Session}
 
@@ -98,13 +100,42 @@ own_of s = option_map (opened_at s.session s.writes) s.snapshot
 abbrev pub reads_of : Session → Option ReadSet
 reads_of s = s.reads
 
+-- what it wrote since its commits were taken last, where it keeps them
+abbrev pub wrote_of : Session → Option SessionWrites
+wrote_of s = s.kept
+
+-- What a session notes of its transactions: what the open one read, and what it wrote itself.
+pub record Notes : Type 0 where
+  pub reads : Option ReadSet
+  pub wrote : Option SessionWrites
+
+abbrev pub notes_of : Session → Notes
+notes_of s = record { reads = reads_of s; wrote = wrote_of s }
+
 -- the session with a table read as a whole
 abbrev pub swept : ℕ → Session → Session
 swept table s = record s { reads = with_one (read.Table table) s.reads }
 
+-- the session from which its commits were taken
+abbrev pub handed_over : Session → Session
+handed_over s = record s { kept = option_map without_commits s.kept }
+
 -- the log as far as its pass saw it
 abbrev pub seen : Session → List Logged
 seen s = log_of s.pass.seat.me.0.log
+
+-- what it wrote by its own events
+abbrev pub own_writes : StoreView → Session → SessionWrites
+own_writes store s = writes_of (own_in (shape_in store) s.session (seen s))
+
+-- The session keeps that, but the first so many of its commits, which were taken.
+pub record KeepsCommits (store : StoreView) (taken : ℕ) (s : Session) : Type 0 where
+  pub within : taken ≤ length (own_writes store s).commits
+  pub kept : wrote_of s ≡ Some (without_first taken (own_writes store s))
+
+-- What it keeps of them, it keeps on.
+abbrev pub KeepsOn : StoreView → Session → Session → Type 0
+KeepsOn store old new = (taken : ℕ) → KeepsCommits store taken old → KeepsCommits store taken new
 
 -- what its pass has seen and done
 abbrev pub view_of : Session → View CoreEvent
@@ -140,9 +171,9 @@ pub record IsSession (store : StoreView) (s : Session) : Type 0 where
   pub named : All (IsNamed (shape_in store).passes) (seen s)
   pub fits : ReadsFit (shape_in store) (reads_of s)
 
--- What was read is what it was, of the store's tables.
-abbrev pub KeepsReads : StoreView → Session → Session → Type 0
-KeepsReads store old new = (reads_of new ≡ reads_of old) × ReadsFit (shape_in store) (reads_of new)
+-- What was noted is what it was, and the reads are of the store's tables.
+abbrev pub KeepsNotes : StoreView → Session → Session → Type 0
+KeepsNotes store old new = (notes_of new ≡ notes_of old) × ReadsFit (shape_in store) (reads_of new)
 
 -- A session's pass may make so many events more: it makes fewer than 2 ^ 56.
 abbrev pub HasRoomFor : ℕ → Session → Type 0
@@ -202,6 +233,7 @@ pub record Answers (store : StoreView) (old new : Session) (command : Command) (
   pub called : Called (shape_in store) false old.session (seen old) (seen new)
       (record { command = command; made = made; told = Some told; reads = reads_of old })
   pub keeps : reads_of new ≡ reads_behind (reads_of old) command told
+  pub wrote : wrote_of new ≡ written_behind made (wrote_of old)
   pub count : events_made new ≡ events_made old + count_by is_event made
   pub ends : EndsCall told made (seen new)
   pub reads : KeepsLend (view_of old) (view_of new)

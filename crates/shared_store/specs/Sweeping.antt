@@ -6,7 +6,7 @@ use Rattle.run_spec.specs.Occurrences.{Occurrence, events_in}
 use Rattle.shared_store.specs.Making.{Makes}
 use Rattle.shared_store.specs.Reading.{Went}
 use Rattle.shared_store.specs.Scanning.{ArePlain}
-use Rattle.shared_store.specs.Store.{IsSession, StoreView, own_of, reads_of}
+use Rattle.shared_store.specs.Store.{IsSession, StoreView, own_of, notes_of}
 use Rattle.shared_store.specs.declared.session.Session.{Session}
 
 -- The session made this event alone and was told this. It has open what it had.
@@ -16,7 +16,7 @@ pub record MakesAlone
   pub session : IsSession store new
   pub same : new.session ≡ old.session
   pub opened : own_of new ≡ own_of old
-  pub kept : reads_of new ≡ reads_of old
+  pub kept : notes_of new ≡ notes_of old
   pub makes : Makes store old.session old.pass.seat new.pass.seat new.pass.hands (own_of old) event
       told
 

@@ -8,6 +8,8 @@ use Rattle.event_spec.specs.Parts.{Shape}
 use Rattle.event_spec.specs.Replies.{CoreReply}
 use Rattle.isolation_spec.specs.declared.place.Place.{Place}
 use Rattle.isolation_spec.specs.Contents.{PlaceMap, at_place, place_cmp}
+use Rattle.outcome_spec.specs.Entries.{is_accepted}
+use Rattle.run_spec.specs.Commits.{says}
 use Rattle.run_spec.specs.Handed.{GoesOn}
 use Rattle.run_spec.specs.Occurrences.{Logged}
 use Rattle.store_laws.specs.Own.{parts_after}
@@ -62,6 +64,11 @@ IsWriteReply reply.Memory = ⊤
 abbrev pub is_written : CoreReply → Bool
 is_written (reply.Written slot) = true
 is_written _ = false
+
+-- whether a write was made and accepted
+abbrev pub is_accepted_in : {E : Type 0} → Result CoreReply E → Bool
+is_accepted_in (Ok told) = says is_accepted told
+is_accepted_in (Err memory) = false
 
 -- The fault for which a write's event was refused, and the one that the write answers.
 abbrev pub fault_replied : CoreReply → Option WriteFault

@@ -1,8 +1,9 @@
 //! Building a store.
-ghost use Rattle.std.specs.Prelude.{◌≡◌, ◌+◌, ◌-◌, ◌≤◌, ◌++◌, IfOk, None, []};
-ghost use Rattle.engine_core.specs.Core.{MayOpen};
+ghost use Rattle.std.specs.Prelude.{◌≡◌, ◌+◌, ◌-◌, ◌≤◌, ◌++◌, [], All, IfOk, None, false};
+ghost use Rattle.engine_core.specs.Core.{IsOpening, MayOpen};
 ghost use Rattle.event_spec.specs.Sound.{IsShape};
-ghost use Rattle.shared_store.specs.Building.{HasSessions, IsNewRow, IsNewSession};
+ghost use Rattle.shared_store.specs.Building.{HasSessions, IsNewRow, IsNewSession, StartsKeeping};
+ghost use Rattle.kept_commits.specs.Kept.{kept_first};
 ghost use Rattle.shared_store.specs.Store.{shape_in};
 
 use crate::reads::Reads;
@@ -12,6 +13,7 @@ use crate::writes::Writes;
 use cell_model::TableDecl;
 use engine_core::Core;
 use hall_steps::{Hall, Pass};
+use kept_commits::KeptCommits;
 use std::alloc::{AllocError, Global};
 
 /// A store that was just built, with its sessions, and behind them one more for each worker, who
@@ -25,8 +27,8 @@ pub struct Built {
 }
 
 impl Session {
-    /// A session with nothing open.
-    fn new(alloc: Global, pass: Pass<Core>, number: u32) -> Result<Session, AllocError>
+    /// A session with nothing open, which keeps its commits or none.
+    fn new(alloc: Global, pass: Pass<Core>, number: u32, keeps: bool) -> Result<Session, AllocError>
         ensures { IfOk result (λ s.
             s ≡ record {
               pass = pass;
@@ -34,16 +36,19 @@ impl Session {
               snapshot = None;
               writes = [];
               reads = None;
+              kept = kept_first keeps;
             }) }
     {
         let writes = Writes::new(alloc)?;
         let reads = Reads::new(alloc)?;
+        let kept = KeptCommits::new(alloc, keeps);
         Ok(Session {
             pass,
             session: number,
             snapshot: None,
             writes,
             reads,
+            kept,
         })
     }
 }
@@ -55,40 +60,78 @@ impl Store {
         alloc: Global,
         pass: &mut Pass<Core>,
         number: u32,
+        keeps: bool,
     ) -> Result<Session, AllocError>
         requires has { HasSessions self.now number pass.old.seat pass.old.hands }
         requires more { 2 ≤ number }
         ensures left { HasSessions self.now (number - 1) pass.new.seat pass.new.hands }
         ensures new { IfOk result (IsNewSession self.now number) }
+        ensures keeps { IfOk result (StartsKeeping keeps) }
     {
         let last = self.hall.split(pass);
-        Session::new(alloc, last, number)
+        Session::new(alloc, last, number, keeps)
     }
 
-    /// The sessions 1 to `count`, which a pass has.
+    /// The sessions 1 to `count`, which a pass has. They keep their commits, or none.
     fn open_all(
         &self,
         alloc: Global,
         mut pass: Pass<Core>,
         count: u32,
+        keeps: bool,
     ) -> Result<Vec<Session>, AllocError>
         requires has { HasSessions self.now count pass.seat pass.hands }
         requires some { 1 ≤ count }
-        ensures { IfOk result (λ row. IsNewRow self.now count row.items) }
+        ensures row { IfOk result (λ row. IsNewRow self.now count row.items) }
+        ensures keeps { IfOk result (λ row. All (StartsKeeping keeps) row.items) }
     {
         let mut row = Vec::new(alloc);
         for opened in 0..count - 1 {
-            let session = self.open_last(alloc, &mut pass, count - opened)?;
+            let session = self.open_last(alloc, &mut pass, count - opened, keeps)?;
             row.push(session)?;
         }
-        let first = Session::new(alloc, pass, 1)?;
+        let first = Session::new(alloc, pass, 1, keeps)?;
         row.push(first)?;
         row.reverse();
         Ok(row)
     }
 
+    /// A store of a core before its first event, with so many sessions and workers. They keep their
+    /// commits, or none.
+    fn raise(
+        alloc: Global,
+        core: Core,
+        sessions: u32,
+        workers: u32,
+        keeps: bool,
+    ) -> Result<Built, AllocError>
+        requires opening { IsOpening core.shape core.parts }
+        requires passes { core.shape.passes ≡ sessions + workers }
+        requires some { 1 ≤ sessions + workers }
+        requires few { sessions + workers ≤ 128 }
+        ensures shape { IfOk result (λ built. shape_in built.store ≡ core.shape) }
+        ensures measures { IfOk result (λ built. IsShape (shape_in built.store)) }
+        ensures sessions { IfOk result (λ built.
+            IsNewRow built.store sessions built.sessions.items) }
+        ensures row { IfOk result (λ built. IsNewRow built.store (sessions + workers)
+            (built.sessions.items ++ built.workers.items)) }
+        ensures keep { IfOk result (λ built.
+            All (StartsKeeping keeps) (built.sessions.items ++ built.workers.items)) }
+    {
+        let passes = sessions + workers;
+        let (hall, pass) = Hall::build(alloc, core, passes)?;
+        let store = Store { hall };
+        let mut row = store.open_all(alloc, pass, passes, keeps)?;
+        let workers = row.split_off(sessions as usize)?;
+        Ok(Built {
+            store,
+            sessions: row,
+            workers,
+        })
+    }
+
     /// Builds a store of these tables, in which nothing was written, with so many sessions and
-    /// workers.
+    /// workers, who keep no commits.
     pub fn build(
         alloc: Global,
         tables: Vec<TableDecl>,
@@ -108,17 +151,10 @@ impl Store {
             IsNewRow built.store sessions built.sessions.items) }
         ensures row { IfOk result (λ built. IsNewRow built.store (sessions + workers)
             (built.sessions.items ++ built.workers.items)) }
+        ensures keep { IfOk result (λ built.
+            All (StartsKeeping false) (built.sessions.items ++ built.workers.items)) }
     {
-        let passes = sessions + workers;
-        let core = Core::new(alloc, tables, passes)?;
-        let (hall, pass) = Hall::build(alloc, core, passes)?;
-        let store = Store { hall };
-        let mut row = store.open_all(alloc, pass, passes)?;
-        let workers = row.split_off(sessions as usize)?;
-        Ok(Built {
-            store,
-            sessions: row,
-            workers,
-        })
+        let core = Core::new(alloc, tables, sessions + workers)?;
+        Store::raise(alloc, core, sessions, workers, false)
     }
 }

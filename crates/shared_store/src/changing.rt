@@ -13,6 +13,7 @@ ghost use Rattle.workload_spec.specs.declared.command.Command.{Command};
 ghost use Rattle.workload_spec.specs.declared.command.Command.TheVariants as command;
 ghost use Rattle.shared_store.specs.Changing.{ChangesAny, ChangesAnyHeld, IsChangeBy, IsChangeOf};
 ghost use Rattle.shared_store.specs.Changing.{IsChangeTo, MayChange, MayChangeHeld};
+ghost use Rattle.shared_store.specs.Commits.{KeepsChange, MayLeaveRow};
 ghost use Rattle.shared_store.specs.Open.{WritesRow};
 ghost use Rattle.shared_store.specs.Store.{Answers, HasRoomFor, IsSession, MakesAtMost, own_of};
 ghost use Rattle.shared_store.specs.Store.{shape_in};
@@ -22,13 +23,14 @@ ghost use Rattle.shared_store.specs.Writing.{Settles};
 use crate::faults::StoreFault;
 use crate::session::Session;
 use crate::store::Store;
-use crate::writes::{Writes, answer_of, make_room, settle};
+use crate::writes::{Writes, answer_of, is_accepted, make_room, settle};
 use cell_model::Row;
 use core_parts::KeyedEvent;
 use engine_core::{Core, CoreReply, imaged};
 use event_spec::{Event, Reply};
 use hall_steps::Pass;
 use isolation_spec::Place;
+use kept_commits::KeptCommits;
 use std::alloc::AllocError;
 use std::sync::{Arc, Wait};
 
@@ -111,13 +113,45 @@ impl Store {
         Ok(told)
     }
 
-    /// Changes the row of a place for the session's transaction, which wrote it already or not.
+    /// Changes a row as [`Store::change_write`] does, and keeps the change where commits are kept.
+    /// This is entered before, and taken back where the change is refused.
+    fn keep_change<R: Wait>(
+        &self,
+        rt: &R,
+        pass: &mut Pass<Core>,
+        writes: &mut Writes,
+        kept: &mut KeptCommits,
+        place: Place,
+        had: bool,
+        copy: Result<Option<Row>, AllocError>,
+        event: KeyedEvent,
+    ) -> Result<CoreReply, AllocError>
+        requires may { MayChange self.now pass.old.seat pass.old.hands place event }
+        requires had { is_some (at_place writes.old place) ≡ had }
+        ensures made { IfOk result (ChangesAny self.now
+            pass.old.seat pass.old.hands pass.new.seat pass.new.hands place event) }
+        ensures writes { IfOk result (Settles writes.old writes.new place) }
+        ensures none { OnErr result (pass.new ≡ pass.old) }
+        ensures kept { OnErr result (writes.new ≡ writes.old) }
+        ensures keeps { IfOk result (KeepsChange place copy kept.old kept.new) }
+        ensures left { OnErr result (kept.new ≡ kept.old) }
+    {
+        let change = copy?;
+        let held = kept.enter(place, change)?;
+        let told = self.change_write(rt, pass, writes, place, had, event);
+        kept.settle(place, held, is_accepted(&told));
+        told
+    }
+
+    /// Changes the row of a place for the session's transaction, which wrote it already or not. The
+    /// copy is of what the event leaves there, where commits are kept.
     fn change_row<R: Wait>(
         &self,
         rt: &R,
         session: &mut Session,
         place: Place,
         had: bool,
+        copy: Result<Option<Row>, AllocError>,
         event: KeyedEvent,
     ) -> Result<(), StoreFault>
         requires session { IsSession self.now session.old }
@@ -125,6 +159,7 @@ impl Store {
         requires change { IsChangeOf (shape_in self.now)
             session.old.session (own_of session.old) place event }
         requires had { is_some (at_place session.old.writes place) ≡ had }
+        requires leaves { IfOk copy (MayLeaveRow session.old.kept place event) }
         ensures session { IsSession self.now session.new }
         ensures same { session.new.session ≡ session.old.session }
         ensures answers { (asked : Command)
@@ -136,12 +171,14 @@ impl Store {
             → WritesRow self.now session.old session.new place change result }
         ensures few { MakesAtMost 2 session.old session.new }
     {
-        match self.change_write(
+        match self.keep_change(
             rt,
             &mut session.pass,
             &mut session.writes,
+            &mut session.kept,
             place,
             had,
+            copy,
             event,
         ) {
             Ok(told) => answer_of(told),
@@ -177,8 +214,9 @@ impl Store {
         let place = self.place_in(table, &row);
         let own = session.own_key(place);
         let had = own.written.is_some();
+        let copy = session.kept.copy(&row);
         let event = KeyedEvent::new(Event::Update { own, table, row });
-        self.change_row(rt, session, place, had, event)
+        self.change_row(rt, session, place, had, copy, event)
     }
 
     /// Removes the row of a key that has one. A block that is imaged is thawed before.
@@ -210,6 +248,6 @@ impl Store {
         let own = session.own_key(place);
         let had = own.written.is_some();
         let event = KeyedEvent::new(Event::Delete { own, table, key });
-        self.change_row(rt, session, place, had, event)
+        self.change_row(rt, session, place, had, Ok(None), event)
     }
 }

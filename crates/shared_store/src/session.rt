@@ -1,7 +1,9 @@
 //! A session of a store.
-ghost use Rattle.std.specs.Prelude.{◌≡◌, ◌<◌, true, Some, option_map, is_some};
+ghost use Rattle.std.specs.Prelude.{◌≡◌, ◌<◌, ℕ, true, Some, drop, length, option_map, is_some};
 ghost use Rattle.run_spec.specs.Opened.{least_written, own_key};
-ghost use Rattle.shared_store.specs.Store.{events_made, own_of, swept};
+ghost use Rattle.kept_commits.specs.Kept.{commits_in};
+ghost use Rattle.shared_store.specs.Store.{KeepsCommits, StoreView, events_made, handed_over};
+ghost use Rattle.shared_store.specs.Store.{own_of, own_writes, swept, wrote_of};
 
 use crate::reads::Reads;
 use crate::writes::Writes;
@@ -9,11 +11,14 @@ use engine_core::Core;
 use event_spec::{OwnKey, OwnTransaction};
 use hall_steps::Pass;
 use isolation_spec::Place;
+use kept_commits::KeptCommits;
+use run_spec::Commit;
 use std::sync::Wait;
 use txn_desk::Snapshot;
 
 /// A session: its pass of the hall, its number, counted from 1, the snapshot of its open
-/// transaction, what that wrote, and where it is checked what it read.
+/// transaction, what that wrote, and where it is checked what it read. It may keep its commits until
+/// they are taken.
 #[derive(Drop)]
 pub struct Session {
     pub(crate) pass: Pass<Core>,
@@ -21,6 +26,7 @@ pub struct Session {
     pub(crate) snapshot: Option<Snapshot>,
     pub(crate) writes: Writes,
     pub(crate) reads: Reads,
+    pub(crate) kept: KeptCommits,
 }
 
 impl Session {
@@ -62,6 +68,20 @@ impl Session {
         ensures { option_map (least_written table) (own_of self.now) ≡ Some result }
     {
         self.writes.least_key(table)
+    }
+
+    /// Gives the commits since they were given last, in their order, each with its number and what
+    /// it wrote, and keeps them no longer. There are none where the session keeps none. It takes no
+    /// memory.
+    pub fn take_commits(&mut self) -> Vec<Commit>
+        ensures taken { result.items ≡ commits_in (wrote_of self.old) }
+        ensures left { self.new ≡ handed_over self.old }
+        ensures own { (store : StoreView) (before : ℕ) → KeepsCommits store before self.old
+            → result.items ≡ drop before (own_writes store self.old).commits }
+        ensures since { (store : StoreView) (before : ℕ) → KeepsCommits store before self.old
+            → KeepsCommits store (length (own_writes store self.old).commits) self.new }
+    {
+        self.kept.take()
     }
 
     /// Counts a table as read as a whole by the open transaction, as a scan does: for one who reads

@@ -134,6 +134,7 @@ impl Store {
             Reply::Committed(number) => {
                 session.snapshot = None;
                 session.reads.forget();
+                session.kept.commit(number);
                 Ok(number)
             }
             Reply::Stale { read, number } => Err(Stale { read, number }),
@@ -159,6 +160,7 @@ impl Store {
         };
         session.snapshot = None;
         session.reads.forget();
+        session.kept.abort();
     }
 
     /// Makes a get's event for a pass that holds no part. Where reads are kept its place is entered

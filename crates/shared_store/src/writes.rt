@@ -8,7 +8,7 @@ ghost use Rattle.isolation_spec.specs.Contents.{PlaceMap, at_place, is_place, pl
 ghost use Rattle.run_spec.specs.Told.{told_by};
 ghost use Rattle.shared_store.specs.Told.{written_told};
 ghost use Rattle.shared_store.specs.Writing.{IsRoomed, IsWriteReply, fault_answered, fault_replied};
-ghost use Rattle.shared_store.specs.Writing.{is_written, roomed, settled};
+ghost use Rattle.shared_store.specs.Writing.{is_accepted_in, is_written, roomed, settled};
 
 use crate::faults::StoreFault;
 use block_layout::SlotId;
@@ -166,6 +166,13 @@ pub(crate) fn answer_of(told: CoreReply) -> Result<(), StoreFault>
         Reply::Memory => Err(StoreFault::Memory),
         _ => unreachable!(),
     }
+}
+
+/// Whether a write was made and accepted.
+pub(crate) fn is_accepted(told: &Result<CoreReply, AllocError>) -> bool
+    ensures { result ≡ is_accepted_in told.now }
+{
+    matches!(told, Ok(Reply::Written(_)))
 }
 
 impl Writes {

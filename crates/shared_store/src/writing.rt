@@ -6,6 +6,7 @@ ghost use Rattle.event_spec.specs.declared.reply.WriteFault.TheVariants as fault
 ghost use Rattle.isolation_spec.specs.Contents.{at_place, place_of};
 ghost use Rattle.workload_spec.specs.Valid.{fits_table};
 ghost use Rattle.workload_spec.specs.declared.command.Command.TheVariants as command;
+ghost use Rattle.shared_store.specs.Commits.{KeepsChange};
 ghost use Rattle.shared_store.specs.Making.{MakesAny, MayMake};
 ghost use Rattle.shared_store.specs.Open.{WritesRow};
 ghost use Rattle.shared_store.specs.Store.{Answers, HasRoomFor, IsSession, MakesAtMost, own_of};
@@ -17,7 +18,7 @@ ghost use Rattle.shared_store.specs.declared.faults.StoreFault.TheVariants as re
 use crate::faults::StoreFault;
 use crate::session::Session;
 use crate::store::Store;
-use crate::writes::{Writes, answer_of, make_room, settle};
+use crate::writes::{Writes, answer_of, is_accepted, make_room, settle};
 use block_body::key_of;
 use cell_model::Row;
 use core_parts::KeyedEvent;
@@ -25,6 +26,7 @@ use engine_core::{Core, CoreReply};
 use event_spec::Event;
 use hall_steps::Pass;
 use isolation_spec::Place;
+use kept_commits::KeptCommits;
 use std::alloc::AllocError;
 use std::sync::{Arc, Wait};
 
@@ -78,6 +80,36 @@ impl Store {
         Ok(told)
     }
 
+    /// Makes a write's event as [`Store::make_write`] does, and keeps the change that it makes where
+    /// commits are kept. This is entered before the event, and taken back where that is refused.
+    fn keep_write<R: Wait>(
+        &self,
+        rt: &R,
+        pass: &mut Pass<Core>,
+        writes: &mut Writes,
+        kept: &mut KeptCommits,
+        place: Place,
+        had: bool,
+        copy: Result<Option<Row>, AllocError>,
+        event: KeyedEvent,
+    ) -> Result<CoreReply, AllocError>
+        requires may { MayMake self.now pass.old.seat pass.old.hands event }
+        requires had { is_some (at_place writes.old place) ≡ had }
+        ensures made { IfOk result (MakesAny self.now
+            pass.old.seat pass.old.hands pass.new.seat pass.new.hands event) }
+        ensures writes { IfOk result (Settles writes.old writes.new place) }
+        ensures none { OnErr result (pass.new ≡ pass.old) }
+        ensures kept { OnErr result (writes.new ≡ writes.old) }
+        ensures keeps { IfOk result (KeepsChange place copy kept.old kept.new) }
+        ensures left { OnErr result (kept.new ≡ kept.old) }
+    {
+        let change = copy?;
+        let held = kept.enter(place, change)?;
+        let told = self.make_write(rt, pass, writes, place, had, event);
+        kept.settle(place, held, is_accepted(&told));
+        told
+    }
+
     /// Adds a row whose key has none.
     ///
     /// # Errors
@@ -108,13 +140,16 @@ impl Store {
         let place = self.place_in(table, &row);
         let own = session.own_key(place);
         let had = own.written.is_some();
+        let copy = session.kept.copy(&row);
         let event = KeyedEvent::new(Event::Insert { own, table, row });
-        match self.make_write(
+        match self.keep_write(
             rt,
             &mut session.pass,
             &mut session.writes,
+            &mut session.kept,
             place,
             had,
+            copy,
             event,
         ) {
             Ok(told) => answer_of(told),

@@ -30,7 +30,8 @@ use Rattle.run_spec.specs.Opened.{least_written}
 use Rattle.run_spec.specs.Told.{is_shared, is_some_row, refusal_of, rows_told, summary_of}
 use Rattle.shared_store.specs.Reading.{IsReadOf, ReadsBlock, Went}
 use Rattle.shared_store.specs.Scanning.{ArePlain}
-use Rattle.shared_store.specs.Store.{Answers, IsFree, IsSession, KeepsLend, StoreView, TookPartsOf, own_of, seen, shape_in, taken_by, view_of, reads_of, swept}
+use Rattle.shared_store.specs.Store.{Answers, IsFree, IsSession, KeepsLend, StoreView, TookPartsOf, own_of, seen, shape_in, taken_by, view_of, reads_of, swept, Notes, wrote_of}
+use Rattle.shared_store.proofs.Noted.{unwritten}
 use Rattle.shared_store.specs.declared.session.Session.{Session}
 use Rattle.shared_store.proofs.Calls.{ends_call, refused_call, took_none}
 use Rattle.shared_store.proofs.Claims.{keeps_none, keeps_stays}
@@ -322,6 +323,7 @@ module _ (store : StoreView) (own : OwnTransaction) (t : ℕ) where
       record {
         made = made;
         keeps = keeps;
+        wrote = ap (λ (notes : Notes). notes.wrote) w.kept ∙ sym (unwritten made w.unwritten (wrote_of old));
         called = record {
           stretch = w.stretch;
           is_call = subst (λ o. IsCallBy sh false old.session o (refusal_of (command.Export t) o) (export_call (reads_of old) made line)) is.own
@@ -350,7 +352,7 @@ module _ (store : StoreView) (own : OwnTransaction) (t : ℕ) where
     -- memory was wanting behind some reads
     part_call : (new : Session) (n : ℕ) (made : List Occurrence) → n ≤ blocks_of sh t → Went store old new asked made → events_in made ≡ map (event.Read own t) (below n)
         → is_cut_short made ≡ true → (a : Answers store old new (command.Export t) said.Memory) × (a.made ≡ made)
-    part_call new n made le w events cut = answered new (reads_of new) made said.Memory w w.kept (inr (is_part n made le events cut))
+    part_call new n made le w events cut = answered new (reads_of new) made said.Memory w (ap (λ (notes : Notes). notes.reads) w.kept) (inr (is_part n made le events cut))
 
     -- An export that was told so of these reads broke off.
     broke_by : (new : Session) (n : ℕ) (made : List Occurrence) (before now : Option (List ℕ)) (spent steps : ℕ) → n ≤ blocks_of sh t
@@ -479,7 +481,7 @@ module _ (store : StoreView) (own : OwnTransaction) (t : ℕ) where
     whole_call : (new : Session) (before now : Option (List ℕ)) (sent : Sent) (spent steps : ℕ) → (s : Sending store old new own t (blocks_of sh t) before now sent spent steps)
         → (a : Answers store old (swept t new) (command.Export t) (said.Exported own.snapshot.number sent.rows sent.batches sent.frozen)) × (a.made ≡ s.made)
     whole_call new before now sent spent steps s = answered new (reads_of (swept t new)) s.made (said.Exported own.snapshot.number sent.rows sent.batches sent.frozen) s.went
-        (swept_export old new t own.snapshot.number sent.rows sent.batches sent.frozen s.went.kept) (inl (record {
+        (swept_export old new t own.snapshot.number sent.rows sent.batches sent.frozen (ap (λ (notes : Notes). notes.reads) s.went.kept)) (inl (record {
           events = s.events ∙ sym (asks s.made);
           granted = plain_granted s.made s.plain;
           line = ap (λ n. Some (said.Exported own.snapshot.number n sent.batches sent.frozen)) s.rows_are
@@ -535,6 +537,7 @@ refused store old t key before spent is written = record {
       record {
         made = [];
         keeps = refl;
+        wrote = sym (unwritten [] (λ w. refl) (wrote_of old));
         called = refused_call (shape_in store) old.session (seen old) (own_of old) is.own (reads_of old) (command.Export t) (said.Dirty key) (go (own_of old) written);
         count = omega arith;
         ends = tt;

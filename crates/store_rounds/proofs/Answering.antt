@@ -26,7 +26,8 @@ use Rattle.run_spec.specs.Handed.{own_in}
 use Rattle.run_spec.specs.Occurrences.{Occurrence, events_in}
 use Rattle.run_spec.specs.Opened.{own_after}
 use Rattle.run_spec.specs.Told.{is_shared, refusal_of}
-use Rattle.shared_store.specs.Store.{Answers, MakesAtMost, StoreView, own_of, seen, shape_in, taken_by, reads_of}
+use Rattle.shared_store.specs.Store.{Answers, MakesAtMost, StoreView, own_of, seen, shape_in, taken_by, reads_of, wrote_of}
+use Rattle.shared_store.proofs.Noted.{unwritten}
 use Rattle.store_rounds.specs.Sessions.{IsFreeSession}
 use Rattle.shared_store.specs.declared.session.Session.{Session}
 use Rattle.store_rounds.specs.Answered.{Answered, most_events}
@@ -67,6 +68,7 @@ refused store s command is needs closed =
     record {
       made = [];
       keeps = refl;
+      wrote = sym (unwritten [] (λ w. refl) (wrote_of s));
       called = nothing_called (shape_in store) false s.session (seen s) call refl
           (subst (λ own. IsCallBy (shape_in store) false s.session own (refusal_of command own) call) (sym nothing)
           (subst (λ told. IsCallBy (shape_in store) false s.session None told call) (sym (refusal_is command needs)) (refl, refl)));

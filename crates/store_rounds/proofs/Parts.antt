@@ -53,7 +53,7 @@ pub nothing_served : (store : StoreView) (session : Session) (before after : Dut
 nothing_served store session before after exported may none ended text = record {
   calls = [];
   did = as_asked store session session before after None [] none (record {
-    worked = record { is_session = may.is_session; same = refl; works = nothing_done (shape_in store) false session.session (seen session); counted = All-nil IsCounted; kept = refl; few = omega arith };
+    worked = record { is_session = may.is_session; same = refl; works = nothing_done (shape_in store) false session.session (seen session); counted = All-nil IsCounted; kept = refl; keeps = λ taken keeps. keeps; few = omega arith };
     rest = [];
     asked = refl;
     whole = λ e. refl;

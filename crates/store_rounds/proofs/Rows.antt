@@ -6,7 +6,8 @@ use Rattle.run_spec.specs.Handed.{GoesOn, own_in}
 use Rattle.run_spec.specs.Occurrences.{Logged}
 use Rattle.run_laws.proofs.Rounds.Working.{further}
 use Rattle.shared_store.specs.Meeting.{Meets}
-use Rattle.shared_store.specs.Store.{StoreView, seen, shape_in}
+use Rattle.shared_store.specs.Store.{Notes, StoreView, seen, shape_in}
+use Rattle.shared_store.proofs.OwnCommits.{keeps_still}
 use Rattle.store_rounds.specs.Sessions.{IsFreeSession}
 use Rattle.shared_store.specs.declared.session.Session.{Session}
 use Rattle.store_rounds.specs.Row.{AreSessions, LookOn, LooksOn, Meet, Met, SeeBack, ShowAlong}
@@ -19,7 +20,7 @@ saw_all log = ([], sym (append-nil log))
 
 -- a session looks on to itself
 pub stays : (store : StoreView) (session : Session) → IsFreeSession store session → LooksOn store session session
-stays store session is = record { is_session = is; same = refl; kept = refl; saw = saw_all (seen session); nothing_more = refl; made = refl }
+stays store session is = record { is_session = is; same = refl; kept = refl; keeps = λ taken keeps. keeps; saw = saw_all (seen session); nothing_more = refl; made = refl }
 
 -- a session that looks on twice has looked on
 pub looks_further : (store : StoreView) (old now new : Session) → LooksOn store old now → LooksOn store now new → LooksOn store old new
@@ -27,6 +28,7 @@ looks_further store old now new first second = record {
   is_session = second.is_session;
   same = second.same ∙ first.same;
   kept = second.kept ∙ first.kept;
+  keeps = λ taken keeps. second.keeps taken (first.keeps taken keeps);
   saw = further (seen old) (seen now) (seen new) first.saw second.saw;
   nothing_more = second.nothing_more ∙ first.nothing_more;
   made = second.made ∙ first.made;
@@ -55,7 +57,8 @@ looks_met : (store : StoreView) (old new : Session) → IsFreeSession store old 
 looks_met store old new is met = record {
   is_session = record { stands = met.session; free = met.reads.claim ∙ is.free };
   same = met.same;
-  kept = met.kept;
+  kept = ap (λ (notes : Notes). notes.reads) met.kept;
+  keeps = keeps_still store old new (ap (λ (notes : Notes). notes.wrote) met.kept) (ap (λ n. own_in (shape_in store) n (seen new)) met.same ∙ met.own);
   saw = met.sees;
   nothing_more = ap (λ n. own_in (shape_in store) n (seen new)) met.same ∙ met.own;
   made = met.made;

@@ -24,6 +24,7 @@ use Rattle.run_spec.specs.Opened.{own_after}
 use Rattle.run_spec.specs.Told.{refusal_of}
 use Rattle.shared_store.proofs.Scanned.{below_more}
 use Rattle.shared_store.specs.Store.{Answers, MakesAtMost, StoreView, seen, shape_in, reads_of}
+use Rattle.shared_store.proofs.OwnCommits.{keeps_along}
 use Rattle.store_rounds.specs.Sessions.{IsFreeSession}
 use Rattle.shared_store.specs.declared.session.Session.{Session}
 use Rattle.workload_spec.specs.Valid.{is_block_of}
@@ -97,6 +98,7 @@ module _ (store : StoreView) where
     asked = refl;
     counted = All-nil IsCounted;
     kept = refl;
+    keeps = λ taken keeps. keeps;
     lines = λ kept. (kept, sym (append-nil lines.told.items));
     few = omega arith;
   }
@@ -120,6 +122,7 @@ module _ (store : StoreView) where
     asked = refl;
     counted = All-cons IsCounted call [] (counted_by_worker told counts) (All-nil IsCounted);
     kept = along_one (reads_of old) (reads_of new) call refl (answers.keeps ∙ sym (silent_reads (reads_of old) command told));
+    keeps = keeps_along store old new command told answers same;
     lines = subst (Tells before now) (sym (told_by_one command answers.made (line_to true (Some told)) (reads_of old))) tells;
     few = few;
   }
@@ -144,6 +147,7 @@ module _ (store : StoreView) where
         ∙ ap (λ (commands : List Command). xs ++ commands) b.asked;
     counted = All-append IsCounted a.calls b.calls a.counted b.counted;
     kept = along_on (reads_of old) a.calls (reads_of mid) b.calls (reads_of new) a.kept b.kept;
+    keeps = λ taken keeps. b.keeps taken (a.keeps taken keeps);
     lines = subst (Tells before now) (sym (filter_map-append (λ (call : Call). call.told) a.calls b.calls))
         (told_on before between now (told_by a.calls) (told_by b.calls) a.lines b.lines);
     few = let first = a.few in let second = b.few in omega (arith, first, second);
@@ -160,6 +164,7 @@ module _ (store : StoreView) where
     asked = k.asked ∙ same;
     counted = k.counted;
     kept = k.kept;
+    keeps = k.keeps;
     lines = k.lines;
     few = let few = k.few in omega (arith, few, more);
   }
@@ -176,6 +181,7 @@ module _ (store : StoreView) where
     asked = k.asked;
     counted = k.counted;
     kept = k.kept;
+    keeps = k.keeps;
     lines = lines_of told all;
     few = let made = k.few in omega (arith, made, few);
   }

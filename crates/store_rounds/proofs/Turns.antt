@@ -16,6 +16,7 @@ use Rattle.run_laws.proofs.Rounds.Working.{nothing_done, work_goes_on}
 use Rattle.run_laws.specs.Rounds.Lines.{line_behind, line_of, share_text, told_by}
 use Rattle.run_laws.specs.Rounds.Texts.{IsCounted}
 use Rattle.shared_store.specs.Store.{HasRoomFor, MakesAtMost, StoreView, seen, shape_in, reads_of}
+use Rattle.shared_store.proofs.OwnCommits.{keeps_along}
 use Rattle.store_rounds.specs.Sessions.{IsFreeSession}
 use Rattle.shared_store.specs.declared.session.Session.{Session}
 use Rattle.store_rounds.specs.Answered.{Answered, SentBy, most_events}
@@ -43,7 +44,7 @@ pub turn_begins : {T : Type 0} (store : StoreView) (round : ℕ) (session : Sess
     → IsFreeSession store session → Turn {T = T} store round session session [] text text (Ok value) exported exported 0
 turn_begins store round session text exported value is = record {
   calls = [];
-  worked = record { is_session = is; same = refl; works = nothing_done (shape_in store) false session.session (seen session); counted = All-nil IsCounted; kept = refl; few = omega arith };
+  worked = record { is_session = is; same = refl; works = nothing_done (shape_in store) false session.session (seen session); counted = All-nil IsCounted; kept = refl; keeps = λ taken keeps. keeps; few = omega arith };
   asked = refl;
   text = sym (append-nil text);
   sent = nothing_sent (shape_in store).tables exported;
@@ -69,6 +70,7 @@ module _ (store : StoreView) (old now new : Session) (calls : List Call) (comman
     counted = All-append IsCounted calls (call ∷ []) worked.counted
         (All-cons IsCounted call [] (λ count e. answered.counts count (told_is count e)) (All-nil IsCounted));
     kept = along_on (reads_of old) calls (reads_of now) (call ∷ []) (reads_of new) worked.kept (along_one (reads_of now) (reads_of new) call refl answered.answers.keeps);
+    keeps = λ taken keeps. keeps_along store now new command told answered.answers answered.same taken (worked.keeps taken keeps);
     few = let more = length_push calls call in let before = worked.few in omega (arith, few, before, more);
   }
     where

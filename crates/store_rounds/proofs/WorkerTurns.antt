@@ -173,6 +173,7 @@ turning_begins store round worker session text is = record {
     works = nothing_done (shape_in store) true session.session (seen session);
     counted = All-nil IsCounted;
     kept = refl;
+    keeps = λ taken keeps. keeps;
     few = omega arith;
   };
   asked = refl;
@@ -198,6 +199,7 @@ module _ {E : Type 0} (store : StoreView) (round worker : ℕ) (old now new : Se
         (subst (λ n. Works (shape_in store) true n (seen now) turn.calls (seen new)) turning.worked.same turn.works);
     counted = All-append IsCounted turning.calls turn.calls turning.worked.counted turn.counted;
     kept = along_on (reads_of old) turning.calls (reads_of now) turn.calls (reads_of new) turning.worked.kept turn.kept;
+    keeps = λ taken keeps. turn.keeps taken (turning.worked.keeps taken keeps);
     few = let first = turning.worked.few in let next = turn.few in omega (arith, first, next);
   }
 

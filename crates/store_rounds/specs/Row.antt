@@ -4,7 +4,7 @@ use Rattle.event_spec.specs.Replay.{IsLawfulLog}
 use Rattle.run_spec.specs.Handed.{GoesOn, own_in}
 use Rattle.run_spec.specs.Occurrences.{Logged}
 use Rattle.run_laws.specs.Rounds.Rounds.{made_in}
-use Rattle.shared_store.specs.Store.{IsNamed, StoreView, events_made, reads_of, seen, shape_in}
+use Rattle.shared_store.specs.Store.{IsNamed, KeepsOn, StoreView, events_made, reads_of, seen, shape_in}
 use Rattle.store_rounds.specs.Sessions.{IsFreeSession}
 use Rattle.shared_store.specs.declared.session.Session.{Session}
 
@@ -12,11 +12,13 @@ use Rattle.shared_store.specs.declared.session.Session.{Session}
 abbrev pub AreSessions : StoreView → List Session → Type 0
 AreSessions store row = (k : ℕ) (d : Session) → k < length row → IsFreeSession store (get_or row k d)
 
--- A session may have seen more of the log, and made no event. What it read is what it was.
+-- A session may have seen more of the log, and made no event. What it read is what it was, and what
+-- it keeps of its commits.
 pub record LooksOn (store : StoreView) (old new : Session) : Type 0 where
   pub is_session : IsFreeSession store new
   pub same : new.session ≡ old.session
   pub kept : reads_of new ≡ reads_of old
+  pub keeps : KeepsOn store old new
   pub saw : GoesOn (seen old) (seen new)
   pub nothing_more
       : own_in (shape_in store) new.session (seen new)

@@ -9,7 +9,7 @@ use Rattle.run_laws.specs.Rounds.Lines.{told_by}
 use Rattle.run_laws.specs.Rounds.Texts.{IsCounted}
 use Rattle.run_spec.specs.Calls.{Call}
 use Rattle.run_spec.specs.Handed.{Works}
-use Rattle.shared_store.specs.Store.{MakesAtMost, StoreView, most_blocks_in_table, reads_of}
+use Rattle.shared_store.specs.Store.{KeepsOn, MakesAtMost, StoreView, most_blocks_in_table, reads_of}
 use Rattle.shared_store.specs.Store.{seen}
 use Rattle.store_rounds.specs.Sessions.{IsFreeSession}
 use Rattle.shared_store.specs.Store.{shape_in}
@@ -74,6 +74,7 @@ pub record KeepsUp
   pub asked : map (λ call. call.command) calls ≡ commands
   pub counted : All IsCounted calls
   pub kept : KeptAlong (reads_of old) calls (reads_of new)
+  pub keeps : KeepsOn store old new
   pub lines : Tells before now (told_by calls)
   pub few : MakesAtMost most old new
 
@@ -89,5 +90,6 @@ pub record MadeTurn
   pub asked : map (λ call. call.command) calls ≡ turn_of (shape_in store).tables
   pub counted : All IsCounted calls
   pub kept : KeptAlong (reads_of old) calls (reads_of new)
+  pub keeps : KeepsOn store old new
   pub lines : IfOk told (λ lines. lines.items ≡ told_by calls)
   pub few : MakesAtMost most_of_turn old new

@@ -10,7 +10,7 @@ use Rattle.run_spec.specs.Handed.{Works}
 use Rattle.run_spec.specs.Ran.{Share}
 use Rattle.run_laws.specs.Rounds.Texts.{IsCounted}
 use Rattle.shared_store.specs.Reads.{ReadSet}
-use Rattle.shared_store.specs.Store.{MakesAtMost, StoreView, reads_of, seen, shape_in}
+use Rattle.shared_store.specs.Store.{KeepsOn, MakesAtMost, StoreView, reads_of, seen, shape_in}
 use Rattle.store_rounds.specs.Sessions.{IsFreeSession}
 use Rattle.shared_store.specs.declared.session.Session.{Session}
 
@@ -22,7 +22,7 @@ KeptAlong before (call ∷ calls) after =
     (call.reads ≡ before) × KeptAlong (reads_now before call) calls after
 
 -- A session of the store, or a worker, carried out these calls, one behind the other, and made so
--- many events at most.
+-- many events at most. What it keeps of its commits it keeps on.
 pub record Worked
     (store : StoreView) (worker : Bool) (most : ℕ) (old new : Session) (calls : List Call)
     : Type 0 where
@@ -31,6 +31,7 @@ pub record Worked
   pub works : Works (shape_in store) worker old.session (seen old) calls (seen new)
   pub counted : All IsCounted calls
   pub kept : KeptAlong (reads_of old) calls (reads_of new)
+  pub keeps : KeepsOn store old new
   pub few : MakesAtMost most old new
 
 abbrev pub asked_in : List Call → List Command

@@ -10,6 +10,7 @@ use Rattle.shared_store.specs.Changing.{IsChangeBy, IsChangeOf, IsChangeTo}
 use Rattle.shared_store.specs.Open.{WritesRow}
 use Rattle.shared_store.specs.Store.{Answers, own_of, shape_in}
 use Rattle.shared_store.specs.Told.{written_told}
+use Rattle.shared_store.specs.Commits.{LeavesRow}
 use Rattle.shared_store.proofs.Calls.{key_handed, own_open}
 use Rattle.shared_store.proofs.Changed.{delete_by, delete_changes, delete_to}
 use Rattle.shared_store.proofs.store.Store.delete.Goals as goal
@@ -25,6 +26,11 @@ change_row-requires-clause-change g c =
     c.new-event.ensures ∙ ap (λ x. event.Delete x c.args.table key) handed in
     subst (λ (e : CoreEvent). IsChangeOf (shape_in st) s.session (own_of s) (place_at c.args.table key) e) (sym is_event)
     (delete_changes st s o.0 c.requires.session o.1 c.args.table key c.requires.table)
+
+pub change_row-requires-clause-leaves : goal.change_row-requires-clause-leaves
+change_row-requires-clause-leaves g c =
+    let key : ℤ = to_z w64 (of_z w64 c.args.key) in
+    λ some. subst (LeavesRow (place_at c.args.table key) None) (sym c.new-event.ensures) (record { own = λ own told. refl; none = λ own told. refl })
 
 pub returns-clause-answers : goal.returns-clause-answers
 returns-clause-answers g c =

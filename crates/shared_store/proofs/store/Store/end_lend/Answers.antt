@@ -16,7 +16,7 @@ returns c =
     let s = c.args.session.now in
     let t = c.look.new.pass in
     let u = c.leave.new.pass in
-    let new : Session = record { pass = u; session = s.session; snapshot = s.snapshot; writes = s.writes; reads = s.reads } in
+    let new : Session = record { pass = u; session = s.session; snapshot = s.snapshot; writes = s.writes; reads = s.reads; kept = s.kept } in
     let there = by_laws (λ M w. IsPass M w.id t.seat t.hands) c.self.inside.hall st c.self.invariant c.self.view_is c.look.ensures.pass in
     let looks = by_laws (λ M w. Looks M s.pass.seat t.seat) c.self.inside.hall st c.self.invariant c.self.view_is c.look.ensures.seen in
     let gone = by_laws (λ M w. IsPass M w.id u.seat u.hands) c.self.inside.hall st c.self.invariant c.self.view_is c.leave.ensures.pass in

@@ -19,7 +19,7 @@ pub unreachable-requires : goal.unreachable-requires
 unreachable-requires g c =
     let st = c.args.self.now in
     let s = c.args.session.now in
-    let new : Session = record { pass = c.image.new.pass; session = s.session; snapshot = s.snapshot; writes = s.writes; reads = s.reads } in
+    let new : Session = record { pass = c.image.new.pass; session = s.session; snapshot = s.snapshot; writes = s.writes; reads = s.reads; kept = s.kept } in
     let all = subst (λ (o : Option CoreReply). Imaged st s.session s.pass.seat new.pass.seat new.pass.hands (own_of s) c.args.table c.args.block o) c.in-Some.is (c.image.ensures s.session (own_of s) c.requires.session.stands) in
     let told = told_or_memory st s.session s.pass.seat new.pass.seat new.pass.hands (own_of s) (imaging c.args.table c.args.block all.image) c.in-Some.told all.makes in
     let body = body_at (shape_in st) (parts_after (shape_in st) all.makes.makes.before) c.args.table c.args.block in
@@ -29,7 +29,7 @@ pub returns-in_default : goal.returns-in_default
 returns-in_default g c =
     let st = c.args.self.now in
     let s = c.args.session.now in
-    let new : Session = record { pass = c.image.new.pass; session = s.session; snapshot = s.snapshot; writes = s.writes; reads = s.reads } in
+    let new : Session = record { pass = c.image.new.pass; session = s.session; snapshot = s.snapshot; writes = s.writes; reads = s.reads; kept = s.kept } in
     let none = none_is c.image.result c.in_default.not-Some in
     let all = subst (λ (o : Option CoreReply). Imaged st s.session s.pass.seat new.pass.seat new.pass.hands (own_of s) c.args.table c.args.block o) none (c.image.ensures s.session (own_of s) c.requires.session.stands) in
     let line = said.Memory in
@@ -47,7 +47,7 @@ pub returns-in-Imaged : goal.returns-in-Imaged
 returns-in-Imaged g c =
     let st = c.args.self.now in
     let s = c.args.session.now in
-    let new : Session = record { pass = c.image.new.pass; session = s.session; snapshot = s.snapshot; writes = s.writes; reads = s.reads } in
+    let new : Session = record { pass = c.image.new.pass; session = s.session; snapshot = s.snapshot; writes = s.writes; reads = s.reads; kept = s.kept } in
     let all = subst (λ (o : Option CoreReply). Imaged st s.session s.pass.seat new.pass.seat new.pass.hands (own_of s) c.args.table c.args.block o) c.in-Some.is (c.image.ensures s.session (own_of s) c.requires.session.stands) in
     let line = said.Frozen c.args.table c.args.block c.in-Imaged.rows in
     let both = gathered_whole st s new c.args.table c.args.block c.in-Some.told line c.requires.session all refl refl (refl, c.requires.session.fits) (λ reads. refl)
@@ -65,7 +65,7 @@ pub returns-in-NoSeal : goal.returns-in-NoSeal
 returns-in-NoSeal g c =
     let st = c.args.self.now in
     let s = c.args.session.now in
-    let new : Session = record { pass = c.image.new.pass; session = s.session; snapshot = s.snapshot; writes = s.writes; reads = s.reads } in
+    let new : Session = record { pass = c.image.new.pass; session = s.session; snapshot = s.snapshot; writes = s.writes; reads = s.reads; kept = s.kept } in
     let all = subst (λ (o : Option CoreReply). Imaged st s.session s.pass.seat new.pass.seat new.pass.hands (own_of s) c.args.table c.args.block o) c.in-Some.is (c.image.ensures s.session (own_of s) c.requires.session.stands) in
     let line = said.NotFrozen in
     let both = gathered_whole st s new c.args.table c.args.block c.in-Some.told line c.requires.session all refl refl (refl, c.requires.session.fits) (λ reads. refl)
@@ -83,7 +83,7 @@ pub returns-in-Memory : goal.returns-in-Memory
 returns-in-Memory g c =
     let st = c.args.self.now in
     let s = c.args.session.now in
-    let new : Session = record { pass = c.image.new.pass; session = s.session; snapshot = s.snapshot; writes = s.writes; reads = s.reads } in
+    let new : Session = record { pass = c.image.new.pass; session = s.session; snapshot = s.snapshot; writes = s.writes; reads = s.reads; kept = s.kept } in
     let all = subst (λ (o : Option CoreReply). Imaged st s.session s.pass.seat new.pass.seat new.pass.hands (own_of s) c.args.table c.args.block o) c.in-Some.is (c.image.ensures s.session (own_of s) c.requires.session.stands) in
     let line = said.Memory in
     let both = gathered_whole st s new c.args.table c.args.block c.in-Some.told line c.requires.session all refl refl (refl, c.requires.session.fits) (λ reads. refl)

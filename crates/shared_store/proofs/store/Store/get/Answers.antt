@@ -24,6 +24,8 @@ use Rattle.shared_store.specs.Reads.{ReadSet, ReadsFit, read_by}
 use Rattle.shared_store.specs.Told.{found_replied, found_told}
 use Rattle.shared_store.specs.Store.{Answers, IsSession, MakesAtMost, StoreView, own_of, reads_of, seen, shape_in}
 use Rattle.shared_store.specs.declared.session.Session.{Session}
+use Rattle.shared_store.specs.Store.{wrote_of}
+use Rattle.shared_store.proofs.Noted.{still}
 use Rattle.shared_store.proofs.Calls.{key_handed, key_stands, may_make, one_event, own_open, own_stands, told_or_memory, unmade}
 use Rattle.shared_store.proofs.Open.{finds_nothing, finds_row}
 use Rattle.shared_store.proofs.ReadSets.{got_fits}
@@ -54,11 +56,13 @@ answered : {E : Type 0} (st : StoreView) (s new : Session) (t : OwnTransaction) 
     → Makes st s.session s.pass.seat new.pass.seat new.pass.hands (own_of s) (getting t table key) told
     → new.session ≡ s.session → own_of new ≡ own_of s
     → reads_of new ≡ read_by (place_at table key) told (reads_of s)
+    → wrote_of new ≡ wrote_of s
     → told ≡ found_replied result
     → IsSession st new × Answers st s new (command.Get table key) (found_told result)
-answered st s new t table key told result is opened has m same kept read found =
+answered st s new t table key told result is opened has m same kept read wrote found =
     one_event st s new (command.Get table key) (getting t table key) told (found_told result) is refl m same kept
     (read ∙ ap (λ r. read_by (place_at table key) r (reads_of s)) found ∙ tells_read (reads_of s) table key result)
+    (λ parts. wrote ∙ still (getting t table key) refl s.session told (wrote_of s) parts)
     (subst (ReadsFit (shape_in st)) (sym read) (got_fits (shape_in st) (place_at table key) told (reads_of s) has is.fits))
     (ap (refusal_of (command.Get table key)) opened)
     (λ made. ap (λ (x : Option OwnTransaction). events_of (shape_in st) x (reads_of s) s.session (command.Get table key) made) opened)
@@ -106,11 +110,11 @@ makes g c is own =
     (c.in-Ok.ensures.made s.session (own_of s) c.requires.session.stands (subst (IsOfSession s.session) (sym is) own))
 
 -- Without memory the session is as it was.
-is_same : (g : Over) (c : In-Err g) → ◌≡◌ {A = Session} (record { pass = c.make_get.new.pass; session = c.args.session.now.session; snapshot = c.args.session.now.snapshot; writes = c.args.session.now.writes; reads = c.make_get.new.reads }) c.args.session.now
+is_same : (g : Over) (c : In-Err g) → ◌≡◌ {A = Session} (record { pass = c.make_get.new.pass; session = c.args.session.now.session; snapshot = c.args.session.now.snapshot; writes = c.args.session.now.writes; reads = c.make_get.new.reads; kept = c.args.session.now.kept }) c.args.session.now
 is_same g c =
     let s = c.args.session.now in
-    subst (λ p. ◌≡◌ {A = Session} (record { pass = p; session = s.session; snapshot = s.snapshot; writes = s.writes; reads = c.make_get.new.reads }) s) (sym c.in-Err.ensures.none)
-    (subst (λ (r : Option ReadSet). ◌≡◌ {A = Session} (record { pass = s.pass; session = s.session; snapshot = s.snapshot; writes = s.writes; reads = r }) s) (sym c.in-Err.ensures.kept) refl)
+    subst (λ p. ◌≡◌ {A = Session} (record { pass = p; session = s.session; snapshot = s.snapshot; writes = s.writes; reads = c.make_get.new.reads; kept = s.kept }) s) (sym c.in-Err.ensures.none)
+    (subst (λ (r : Option ReadSet). ◌≡◌ {A = Session} (record { pass = s.pass; session = s.session; snapshot = s.snapshot; writes = s.writes; reads = r; kept = s.kept }) s) (sym c.in-Err.ensures.kept) refl)
 
 pub make_get-requires : goal.make_get-requires
 make_get-requires g c =
@@ -136,15 +140,15 @@ row_of-requires g c =
 both : (g : Over) (c : After-row_of g)
     → Makes c.args.self.now c.args.session.now.session c.args.session.now.pass.seat c.make_get.new.pass.seat c.make_get.new.pass.hands (own_of c.args.session.now)
     (getting (own_open c.args.session.now c.requires.busy).0 c.args.table c.args.key) c.in-Ok.told
-    → IsSession c.args.self.now (record { pass = c.make_get.new.pass; session = c.args.session.now.session; snapshot = c.args.session.now.snapshot; writes = c.args.session.now.writes; reads = c.make_get.new.reads })
-    × Answers c.args.self.now c.args.session.now (record { pass = c.make_get.new.pass; session = c.args.session.now.session; snapshot = c.args.session.now.snapshot; writes = c.args.session.now.writes; reads = c.make_get.new.reads })
+    → IsSession c.args.self.now (record { pass = c.make_get.new.pass; session = c.args.session.now.session; snapshot = c.args.session.now.snapshot; writes = c.args.session.now.writes; reads = c.make_get.new.reads; kept = c.args.session.now.kept })
+    × Answers c.args.self.now c.args.session.now (record { pass = c.make_get.new.pass; session = c.args.session.now.session; snapshot = c.args.session.now.snapshot; writes = c.args.session.now.writes; reads = c.make_get.new.reads; kept = c.args.session.now.kept })
     (command.Get c.args.table c.args.key) (found_told c.row_of.result)
 both g c m =
     let s = c.args.session.now in
     let o = own_open s c.requires.busy in
-    answered c.args.self.now s (record { pass = c.make_get.new.pass; session = s.session; snapshot = s.snapshot; writes = s.writes; reads = c.make_get.new.reads }) o.0 c.args.table c.args.key c.in-Ok.told c.row_of.result c.requires.session o.1 c.requires.table m refl refl
+    answered c.args.self.now s (record { pass = c.make_get.new.pass; session = s.session; snapshot = s.snapshot; writes = s.writes; reads = c.make_get.new.reads; kept = s.kept }) o.0 c.args.table c.args.key c.in-Ok.told c.row_of.result c.requires.session o.1 c.requires.table m refl refl
     (subst (λ (key : ℤ). c.make_get.new.reads ≡ read_by (place_at c.args.table key) c.in-Ok.told s.reads) (to_z-of_z w64 c.args.key c.ranges.key) c.in-Ok.ensures.reads)
-    c.row_of.ensures
+    refl c.row_of.ensures
 
 pub returns-in-Ok-clause-session : goal.returns-in-Ok-clause-session
 returns-in-Ok-clause-session g c =
@@ -163,7 +167,7 @@ returns-in-Ok-clause-finds g c =
     let o = own_open s c.requires.busy in
     let at' = goal.at.returns-in-Ok-clause-finds g c in
     let m = makes g at'.In-Ok (is_getting g at'.After-new-event) (mine g at'.After-new-event) in
-    finds st s (record { pass = c.make_get.new.pass; session = s.session; snapshot = s.snapshot; writes = s.writes; reads = c.make_get.new.reads }) o.0 c.args.table c.args.key c.in-Ok.told c.row_of.result c.requires.session
+    finds st s (record { pass = c.make_get.new.pass; session = s.session; snapshot = s.snapshot; writes = s.writes; reads = c.make_get.new.reads; kept = s.kept }) o.0 c.args.table c.args.key c.in-Ok.told c.row_of.result c.requires.session
     (both g at'.After-row_of m).0 refl (own_stands st s o.0 c.requires.session o.1).0 m.makes c.requires.busy c.row_of.ensures
 
 pub returns-in-Ok-clause-few : goal.returns-in-Ok-clause-few

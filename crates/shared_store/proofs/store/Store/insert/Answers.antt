@@ -1,4 +1,4 @@
-use Rattle.std.proofs.Common.{arith, ◌≡◌, ℕ, Option, Some, option_map, refl, sym, ap, subst, ◌∙◌}
+use Rattle.std.proofs.Common.{arith, ◌≡◌, ◌∷◌, [], ℕ, Result, Option, Some, option_map, refl, sym, ap, subst, ◌∙◌}
 use mathlib.Core.Logic.{inl}
 use Rattle.block_spec.specs.Slots.{Row}
 use Rattle.event_spec.specs.declared.event.Event.TheVariants as event
@@ -19,6 +19,16 @@ use Rattle.shared_store.specs.Store.{Answers, IsSession, MakesAtMost, own_of, sh
 use Rattle.shared_store.specs.Told.{written_told}
 use Rattle.shared_store.specs.Writing.{IsWriteReply, fault_answered, settled}
 use Rattle.shared_store.specs.declared.session.Session.{Session}
+use Rattle.std.specs.Prelude.{IfOk}
+use Rattle.std.specs.declared.alloc.AllocError.{AllocError}
+use Rattle.event_spec.specs.Parts.{Parts}
+use Rattle.outcome_spec.specs.Entries.{is_accepted}
+use Rattle.run_spec.specs.Commits.{SessionWrites, says}
+use Rattle.store_laws.specs.Own.{occurrence_at}
+use Rattle.kept_commits.specs.Kept.{with_change}
+use Rattle.shared_store.specs.Commits.{MayLeaveRow, written_behind}
+use Rattle.shared_store.specs.Store.{wrote_of}
+use Rattle.shared_store.proofs.Noted.{leaves_copy, wrote_one}
 use Rattle.shared_store.proofs.Calls.{key_handed, key_stands, may_make, one_event, own_open, own_stands, told_or_memory, unmade, written_there}
 use Rattle.shared_store.proofs.Wrote.{fits_there, settled_own, tells_write, writes_reply}
 use Rattle.shared_store.proofs.Full.{found_full}
@@ -53,16 +63,16 @@ mine g c =
 -- The session made it.
 makes : (g : Over) (c : In-Ok g) → c.new-event.result ≡ inserting (own_open c.args.session.now c.requires.busy).0 c.args.table c.args.row
     → IsOfSession c.args.session.now.session (inserting (own_open c.args.session.now c.requires.busy).0 c.args.table c.args.row)
-    → Makes c.args.self.now c.args.session.now.session c.args.session.now.pass.seat c.make_write.new.pass.seat c.make_write.new.pass.hands (own_of c.args.session.now)
+    → Makes c.args.self.now c.args.session.now.session c.args.session.now.pass.seat c.keep_write.new.pass.seat c.keep_write.new.pass.hands (own_of c.args.session.now)
     (inserting (own_open c.args.session.now c.requires.busy).0 c.args.table c.args.row) c.in-Ok.told
 makes g c same own =
     let s = c.args.session.now in
-    subst (λ (e : CoreEvent). Makes c.args.self.now s.session s.pass.seat c.make_write.new.pass.seat c.make_write.new.pass.hands (own_of s) e c.in-Ok.told) same
+    subst (λ (e : CoreEvent). Makes c.args.self.now s.session s.pass.seat c.keep_write.new.pass.seat c.keep_write.new.pass.hands (own_of s) e c.in-Ok.told) same
     (c.in-Ok.ensures.made s.session (own_of s) c.requires.session.stands (subst (IsOfSession s.session) (sym same) own))
 
 -- It replied as a write does.
 replies : (g : Over) (c : In-Ok g)
-    → Makes c.args.self.now c.args.session.now.session c.args.session.now.pass.seat c.make_write.new.pass.seat c.make_write.new.pass.hands (own_of c.args.session.now)
+    → Makes c.args.self.now c.args.session.now.session c.args.session.now.pass.seat c.keep_write.new.pass.seat c.keep_write.new.pass.hands (own_of c.args.session.now)
     (inserting (own_open c.args.session.now c.requires.busy).0 c.args.table c.args.row) c.in-Ok.told
     → IsWriteReply c.in-Ok.told
 replies g c m =
@@ -71,15 +81,29 @@ replies g c m =
     let o = own_open s c.requires.busy in
     writes_reply c.in-Ok.told
     (insert_judged (shape_in st) (parts_after (shape_in st) m.makes.before) (own_key c.args.table (key_of c.args.row) o.0) c.args.table (key_of c.args.row))
-    (told_or_memory st s.session s.pass.seat c.make_write.new.pass.seat c.make_write.new.pass.hands (own_of s) (inserting o.0 c.args.table c.args.row) c.in-Ok.told m)
+    (told_or_memory st s.session s.pass.seat c.keep_write.new.pass.seat c.keep_write.new.pass.hands (own_of s) (inserting o.0 c.args.table c.args.row) c.in-Ok.told m)
+
+-- The row is kept where the insert was accepted.
+wrote_insert : (g : Over) (c : After-answer_of g) (parts : Parts)
+    → c.keep_write.new.kept ≡ written_behind
+    (occurrence_at c.args.session.now.session parts (inserting (own_open c.args.session.now c.requires.busy).0 c.args.table c.args.row) c.in-Ok.told ∷ []) (wrote_of c.args.session.now)
+wrote_insert g c parts =
+    let s = c.args.session.now in
+    let o = own_open s c.requires.busy in
+    let kept = c.in-Ok.ensures.keeps in
+    let leaves = subst (λ (copy : Result (Option Row) AllocError). IfOk copy (MayLeaveRow (wrote_of s) (place_of c.args.table c.args.row) (inserting o.0 c.args.table c.args.row))) kept.copied
+    (leaves_copy c.copy-copy.result (wrote_of s) (place_of c.args.table c.args.row) c.args.row (inserting o.0 c.args.table c.args.row) c.copy-copy.ensures (record { own = λ own told. refl; none = λ own told. refl })) in
+    kept.kept
+    ∙ ap (λ p. option_map (with_change p kept.change (says is_accepted c.in-Ok.told)) (wrote_of s)) c.place_in-place.ensures.place
+    ∙ sym (wrote_one (place_of c.args.table c.args.row) kept.change (inserting o.0 c.args.table c.args.row) c.in-Ok.told s.session parts (wrote_of s) leaves)
 
 -- The session behind it, and the answer.
 answered : (g : Over) (c : After-answer_of g)
-    → Makes c.args.self.now c.args.session.now.session c.args.session.now.pass.seat c.make_write.new.pass.seat c.make_write.new.pass.hands (own_of c.args.session.now)
+    → Makes c.args.self.now c.args.session.now.session c.args.session.now.pass.seat c.keep_write.new.pass.seat c.keep_write.new.pass.hands (own_of c.args.session.now)
     (inserting (own_open c.args.session.now c.requires.busy).0 c.args.table c.args.row) c.in-Ok.told
-    → IsSession c.args.self.now (record { pass = c.make_write.new.pass; session = c.args.session.now.session; snapshot = c.args.session.now.snapshot; writes = c.make_write.new.writes; reads = c.args.session.now.reads })
+    → IsSession c.args.self.now (record { pass = c.keep_write.new.pass; session = c.args.session.now.session; snapshot = c.args.session.now.snapshot; writes = c.keep_write.new.writes; reads = c.args.session.now.reads; kept = c.keep_write.new.kept })
     × Answers c.args.self.now c.args.session.now
-    (record { pass = c.make_write.new.pass; session = c.args.session.now.session; snapshot = c.args.session.now.snapshot; writes = c.make_write.new.writes; reads = c.args.session.now.reads })
+    (record { pass = c.keep_write.new.pass; session = c.args.session.now.session; snapshot = c.args.session.now.snapshot; writes = c.keep_write.new.writes; reads = c.args.session.now.reads; kept = c.keep_write.new.kept })
     (command.Insert c.args.table c.args.row) (written_told c.args.table c.answer_of.result)
 answered g c m =
     let st = c.args.self.now in
@@ -88,38 +112,39 @@ answered g c m =
     let asked = command.Insert c.args.table c.args.row in
     let told = c.in-Ok.told in
     let line = written_told c.args.table c.answer_of.result in
-    let new : Session = record { pass = c.make_write.new.pass; session = s.session; snapshot = s.snapshot; writes = c.make_write.new.writes; reads = s.reads } in
-    let wrote : c.make_write.new.writes ≡ settled s.writes (place_of c.args.table c.args.row) told = c.in-Ok.ensures.writes ∙ ap (λ p. settled s.writes p told) c.place_in-place.ensures.place in
+    let new : Session = record { pass = c.keep_write.new.pass; session = s.session; snapshot = s.snapshot; writes = c.keep_write.new.writes; reads = s.reads; kept = c.keep_write.new.kept } in
+    let wrote : c.keep_write.new.writes ≡ settled s.writes (place_of c.args.table c.args.row) told = c.in-Ok.ensures.writes ∙ ap (λ p. settled s.writes p told) c.place_in-place.ensures.place in
     one_event st s new asked (inserting o.0 c.args.table c.args.row) told line c.requires.session refl m refl
-    (settled_own s.session s.writes c.make_write.new.writes (place_of c.args.table c.args.row) told s.snapshot wrote)
-    (sym (write_reads s.reads asked c.args.table c.answer_of.result)) c.requires.session.fits
+    (settled_own s.session s.writes c.keep_write.new.writes (place_of c.args.table c.args.row) told s.snapshot wrote)
+    (sym (write_reads s.reads asked c.args.table c.answer_of.result)) (wrote_insert g c) c.requires.session.fits
     (ap (refusal_of asked) o.1) (λ made. ap (λ (x : Option OwnTransaction). events_of (shape_in st) x s.reads s.session asked made) o.1)
     (tells_write (own_of s) asked c.args.table told line refl refl (c.answer_of.ensures.tells c.args.table))
 
 -- Without memory the session is as it was.
 is_same : (g : Over) (c : In-Err g)
-    → ◌≡◌ {A = Session} (record { pass = c.make_write.new.pass; session = c.args.session.now.session; snapshot = c.args.session.now.snapshot; writes = c.make_write.new.writes; reads = c.args.session.now.reads }) c.args.session.now
+    → ◌≡◌ {A = Session} (record { pass = c.keep_write.new.pass; session = c.args.session.now.session; snapshot = c.args.session.now.snapshot; writes = c.keep_write.new.writes; reads = c.args.session.now.reads; kept = c.keep_write.new.kept }) c.args.session.now
 is_same g c =
     let s = c.args.session.now in
-    subst (λ p. ◌≡◌ {A = Session} (record { pass = p; session = s.session; snapshot = s.snapshot; writes = c.make_write.new.writes; reads = s.reads }) s) (sym c.in-Err.ensures.none)
-    (subst (λ (w : PlaceMap ℕ). ◌≡◌ {A = Session} (record { pass = s.pass; session = s.session; snapshot = s.snapshot; writes = w; reads = s.reads }) s) (sym c.in-Err.ensures.kept) refl)
+    subst (λ p. ◌≡◌ {A = Session} (record { pass = p; session = s.session; snapshot = s.snapshot; writes = c.keep_write.new.writes; reads = s.reads; kept = c.keep_write.new.kept }) s) (sym c.in-Err.ensures.none)
+    (subst (λ (w : PlaceMap ℕ). ◌≡◌ {A = Session} (record { pass = s.pass; session = s.session; snapshot = s.snapshot; writes = w; reads = s.reads; kept = c.keep_write.new.kept }) s) (sym c.in-Err.ensures.kept)
+    (subst (λ (k : Option SessionWrites). ◌≡◌ {A = Session} (record { pass = s.pass; session = s.session; snapshot = s.snapshot; writes = s.writes; reads = s.reads; kept = k }) s) (sym c.in-Err.ensures.left) refl))
 
-pub make_write-requires-clause-may : goal.make_write-requires-clause-may
-make_write-requires-clause-may g c =
+pub keep_write-requires-clause-may : goal.keep_write-requires-clause-may
+keep_write-requires-clause-may g c =
     let st = c.args.self.now in
     let s = c.args.session.now in
     let o = own_open s c.requires.busy in
-    let at' = (goal.at.make_write-requires-clause-may g c).After-new-event in
+    let at' = (goal.at.keep_write-requires-clause-may g c).After-new-event in
     subst (MayMake st s.pass.seat s.pass.hands) (sym (is_insert g at'))
     (may_make st s (inserting o.0 c.args.table c.args.row) c.requires.session c.requires.room (mine g at') refl
     (key_stands st s o.0 c.args.table (key_of c.args.row) c.requires.session o.1)
     (λ parts holds stamp. fits_there (shape_in st) c.args.table c.args.row c.requires.fits))
 
-pub make_write-requires-clause-had : goal.make_write-requires-clause-had
-make_write-requires-clause-had g c =
+pub keep_write-requires-clause-had : goal.keep_write-requires-clause-had
+keep_write-requires-clause-had g c =
     let s = c.args.session.now in
     let o = own_open s c.requires.busy in
-    let at' = (goal.at.make_write-requires-clause-had g c).After-new-event in
+    let at' = (goal.at.keep_write-requires-clause-had g c).After-new-event in
     written_there s o.0 c.args.table (key_of c.args.row) c.place_in-place.result c.own_key-own.result c.is_some-had.result o.1 (is_handed g at') c.is_some-had.ensures c.place_in-place.ensures.place
 
 pub answer_of-requires : goal.answer_of-requires
@@ -148,7 +173,7 @@ returns-in-Ok-clause-writes g c =
     let at' = (goal.at.returns-in-Ok-clause-writes g c).After-new-event in
     let done = (goal.at.returns-in-Ok-clause-writes g c).In-Ok in
     let m = makes g done (is_insert g at') (mine g at') in
-    let new : Session = record { pass = c.make_write.new.pass; session = s.session; snapshot = s.snapshot; writes = c.make_write.new.writes; reads = s.reads } in
+    let new : Session = record { pass = c.keep_write.new.pass; session = s.session; snapshot = s.snapshot; writes = c.keep_write.new.writes; reads = s.reads; kept = c.keep_write.new.kept } in
     inserts_row st s new (own_key c.args.table (key_of c.args.row) o.0) c.args.table c.args.row c.in-Ok.told c.answer_of.result c.requires.session
     (answered g (goal.at.returns-in-Ok-clause-writes g c).After-answer_of m).0 refl
     (own_stands st s o.0 c.requires.session o.1).0 m.makes (busy_of new (shut_of s c.requires.busy)) (replies g done m) c.answer_of.ensures.accepted
@@ -166,7 +191,7 @@ returns-in-Ok-clause-full g c inserts is =
     let o = own_open s c.requires.busy in
     let at' = (goal.at.returns-in-Ok-clause-full g c).After-new-event in
     let m = makes g (goal.at.returns-in-Ok-clause-full g c).In-Ok (is_insert g at') (mine g at') in
-    let new : Session = record { pass = c.make_write.new.pass; session = s.session; snapshot = s.snapshot; writes = c.make_write.new.writes; reads = s.reads } in
+    let new : Session = record { pass = c.keep_write.new.pass; session = s.session; snapshot = s.snapshot; writes = c.keep_write.new.writes; reads = s.reads; kept = c.keep_write.new.kept } in
     found_full st s new (own_key c.args.table (key_of c.args.row) o.0) c.args.table c.args.row c.in-Ok.told inserts c.place_in-place.ensures.measures
     (answered g (goal.at.returns-in-Ok-clause-full g c).After-answer_of m).0 m (sym c.answer_of.ensures.fault ∙ ap fault_answered is)
 

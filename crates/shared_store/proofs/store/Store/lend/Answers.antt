@@ -42,7 +42,7 @@ returns g c =
     let s = c.args.session.now in
     let t = c.take_body-body.new.pass in
     let u = c.lend_held-lent.new.pass in
-    let new : Session = record { pass = c.give_alone.new.pass; session = s.session; snapshot = s.snapshot; writes = s.writes; reads = s.reads } in
+    let new : Session = record { pass = c.give_alone.new.pass; session = s.session; snapshot = s.snapshot; writes = s.writes; reads = s.reads; kept = s.kept } in
     let e : CoreEvent = imaging c.args.table c.args.block None in
     let takes = c.take_body-body.ensures.takes e (image_on_body (shape_in st) c.args.table c.args.block None) s.session (own_of s) c.requires.session.stands in
     let held = c.lend_held-lent.ensures s.session (own_of s) takes.within in

@@ -30,7 +30,7 @@ returns-in-Looked g c =
     let st = c.args.self.now in
     let s = c.args.session.now in
     let e : CoreEvent = looking c.args.table c.args.block in
-    let new : Session = record { pass = c.make_on_body.new.pass; session = s.session; snapshot = s.snapshot; writes = s.writes; reads = s.reads } in
+    let new : Session = record { pass = c.make_on_body.new.pass; session = s.session; snapshot = s.snapshot; writes = s.writes; reads = s.reads; kept = s.kept } in
     let m = made_by st s c.make_on_body.new.pass.seat c.make_on_body.new.pass.hands e c.new-event.result c.make_on_body.result c.requires.session refl c.new-event.ensures c.make_on_body.ensures in
     let alone = made_alone st s new e c.make_on_body.result (reply.Looked c.in-Looked.look) m c.in-Looked.is refl refl (refl, c.requires.session.fits) refl in
     record { alone = alone; seen = look_seen st s new c.args.table c.args.block c.in-Looked.look c.requires.block alone }
@@ -40,6 +40,6 @@ returns-in-Memory g c =
     let st = c.args.self.now in
     let s = c.args.session.now in
     let e : CoreEvent = looking c.args.table c.args.block in
-    let new : Session = record { pass = c.make_on_body.new.pass; session = s.session; snapshot = s.snapshot; writes = s.writes; reads = s.reads } in
+    let new : Session = record { pass = c.make_on_body.new.pass; session = s.session; snapshot = s.snapshot; writes = s.writes; reads = s.reads; kept = s.kept } in
     let m = made_by st s c.make_on_body.new.pass.seat c.make_on_body.new.pass.hands e c.new-event.result c.make_on_body.result c.requires.session refl c.new-event.ensures c.make_on_body.ensures in
     record { alone = made_alone st s new e c.make_on_body.result reply.Memory m c.in-Memory.is refl refl (refl, c.requires.session.fits) refl; seen = tt }

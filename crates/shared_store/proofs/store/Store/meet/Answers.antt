@@ -29,7 +29,7 @@ show-requires-2-clause-to c =
 pub returns-clause-a : goal.returns-clause-a
 returns-clause-a c =
     let a = c.args.a.now in
-    let new : Session = record { pass = c.show-2.new.to; session = a.session; snapshot = a.snapshot; writes = a.writes; reads = a.reads } in
+    let new : Session = record { pass = c.show-2.new.to; session = a.session; snapshot = a.snapshot; writes = a.writes; reads = a.reads; kept = a.kept } in
     meets c.args.self.now a new
     (subst (λ (v : View CoreEvent). Sees c.args.self.now a.session v c.show-2.new.to.seat c.show-2.new.to.hands (own_of a)) c.show.ensures.same
     (c.show-2.ensures.to a.session (own_of a) (c.show.ensures.from a.session (own_of a) c.requires.session_a.stands)))
@@ -38,7 +38,7 @@ returns-clause-a c =
 pub returns-clause-b : goal.returns-clause-b
 returns-clause-b c =
     let b = c.args.b.now in
-    let new : Session = record { pass = c.show-2.new.from; session = b.session; snapshot = b.snapshot; writes = b.writes; reads = b.reads } in
+    let new : Session = record { pass = c.show-2.new.from; session = b.session; snapshot = b.snapshot; writes = b.writes; reads = b.reads; kept = b.kept } in
     let saw = c.show.ensures.to b.session (own_of b) c.requires.session_b.stands in
     meets c.args.self.now b new
     (saw_and_stays c.args.self.now b.session b.pass.seat.me.0 c.show.new.to.seat c.show-2.new.from.seat c.show.new.to.hands c.show-2.new.from.hands (own_of b)

@@ -41,7 +41,7 @@ returns-in-Moved g c =
     let st = c.args.self.now in
     let s = c.args.session.now in
     let e : CoreEvent = event.Move c.args.table c.args.moves in
-    let new : Session = record { pass = c.make.new.pass; session = s.session; snapshot = s.snapshot; writes = s.writes; reads = s.reads } in
+    let new : Session = record { pass = c.make.new.pass; session = s.session; snapshot = s.snapshot; writes = s.writes; reads = s.reads; kept = s.kept } in
     let m = made_by st s c.make.new.pass.seat c.make.new.pass.hands e c.new-event.result c.make.result c.requires.session refl c.new-event.ensures c.make.ensures in
     moves_some {E = AllocError} st s new c.args.table c.args.moves (Ok c.in-Moved.count)
     (some_pairs c.args.moves c.is_empty.result (c.is_empty.ensures ∙ ap (λ (pairs : List MovePair). length pairs == 0) c.as_slice.ensures) c.if-is_empty.false)
@@ -52,7 +52,7 @@ returns-in-Memory g c =
     let st = c.args.self.now in
     let s = c.args.session.now in
     let e : CoreEvent = event.Move c.args.table c.args.moves in
-    let new : Session = record { pass = c.make.new.pass; session = s.session; snapshot = s.snapshot; writes = s.writes; reads = s.reads } in
+    let new : Session = record { pass = c.make.new.pass; session = s.session; snapshot = s.snapshot; writes = s.writes; reads = s.reads; kept = s.kept } in
     let m = made_by st s c.make.new.pass.seat c.make.new.pass.hands e c.new-event.result c.make.result c.requires.session refl c.new-event.ensures c.make.ensures in
     moves_some {E = AllocError} st s new c.args.table c.args.moves (Err _)
     (some_pairs c.args.moves c.is_empty.result (c.is_empty.ensures ∙ ap (λ (pairs : List MovePair). length pairs == 0) c.as_slice.ensures) c.if-is_empty.false)

@@ -48,7 +48,7 @@ returns-clause-keeping g c =
     let st = c.args.self.now in
     let s = c.args.session.now in
     let e : CoreEvent = observing c.args.table c.args.block in
-    let new : Session = record { pass = c.make_keeping.new.pass; session = s.session; snapshot = s.snapshot; writes = s.writes; reads = s.reads } in
+    let new : Session = record { pass = c.make_keeping.new.pass; session = s.session; snapshot = s.snapshot; writes = s.writes; reads = s.reads; kept = s.kept } in
     let m = kept_by st (beside_observe c.args.table) c.args.table c.args.block s new.pass.seat new.pass.hands e e c.make_keeping.result c.requires.keeping
     (observe_on_block (shape_in st) c.args.table c.args.block) refl refl c.make_keeping.ensures in
     kept_on st (beside_observe c.args.table) c.args.block s new e c.make_keeping.result m refl refl c.requires.keeping.fits refl
@@ -58,7 +58,7 @@ returns-clause-observes g c =
     let st = c.args.self.now in
     let s = c.args.session.now in
     let e : CoreEvent = observing c.args.table c.args.block in
-    let new : Session = record { pass = c.make_keeping.new.pass; session = s.session; snapshot = s.snapshot; writes = s.writes; reads = s.reads } in
+    let new : Session = record { pass = c.make_keeping.new.pass; session = s.session; snapshot = s.snapshot; writes = s.writes; reads = s.reads; kept = s.kept } in
     let m = kept_by st (beside_observe c.args.table) c.args.table c.args.block s new.pass.seat new.pass.hands e e c.make_keeping.result c.requires.keeping
     (observe_on_block (shape_in st) c.args.table c.args.block) refl refl c.make_keeping.ensures in
     alone_kept st (beside_observe c.args.table) s new e c.make_keeping.result (reply.Turned c.in-Turned.turned) m c.in-Turned.is refl refl (refl, c.requires.keeping.fits) refl

@@ -22,7 +22,7 @@ returns g c =
     let st = c.args.self.now in
     let s = c.args.session.now in
     let e : CoreEvent = event.Oldest in
-    let new : Session = record { pass = c.make.new.pass; session = s.session; snapshot = s.snapshot; writes = s.writes; reads = s.reads } in
+    let new : Session = record { pass = c.make.new.pass; session = s.session; snapshot = s.snapshot; writes = s.writes; reads = s.reads; kept = s.kept } in
     let m = made_by st s c.make.new.pass.seat c.make.new.pass.hands e c.new-event.result c.make.result c.requires.session refl c.new-event.ensures c.make.ensures in
     let asks = made_alone st s new e c.make.result (reply.Oldest c.in-Oldest.oldest) m c.in-Oldest.is refl refl (refl, c.requires.session.fits) refl in
     record { asks = asks; oldest = oldest_known st s new c.in-Oldest.oldest asks }

@@ -7,6 +7,8 @@ use Rattle.shared_store.specs.Building.{IsNewSession}
 use Rattle.shared_store.specs.declared.session.Session.{Session}
 use Rattle.shared_store.proofs.Rows.{given_is_new, hands_are, left_has, new_session, ok_is}
 use Rattle.shared_store.proofs.Shown.{by_hall, by_laws}
+use Rattle.shared_store.specs.Building.{StartsKeeping}
+use Rattle.shared_store.specs.Commits.{kept_first}
 use Rattle.shared_store.proofs.store.Store.open_last.Goals as goal
 
 pub split-last-requires-clause-pass : goal.split-last-requires-clause-pass
@@ -43,7 +45,7 @@ returns-clause-new c =
     let last = c.split-last in
     let old = c.args.pass.now in
     let more = c.requires.more in
-    let opened : Session = record { pass = last.result; session = c.args.number; snapshot = None; writes = []; reads = None } in
+    let opened : Session = record { pass = last.result; session = c.args.number; snapshot = None; writes = []; reads = None; kept = kept_first c.args.keeps } in
     ok_is (IsNewSession c.args.self.now c.args.number) c.new.result opened c.new.ensures
     (new_session c.args.self.now c.args.number opened
     (given_is_new c.args.self.now c.args.number (c.args.number - 1) old.seat last.new.pass.seat last.result.seat old.hands last.new.pass.hands last.result.hands
@@ -54,3 +56,8 @@ returns-clause-new c =
     (by_laws (λ M w. IsNew M old.seat.me.0 last.result.seat.me.0 (greatest old.seat.me.0.sessions ∷ [])) c.self.inside.hall c.args.self.now c.self.invariant c.self.view_is last.ensures.new)
     last.ensures.empty)
     refl refl refl)
+
+pub returns-clause-keeps : goal.returns-clause-keeps
+returns-clause-keeps c =
+    let opened : Session = record { pass = c.split-last.result; session = c.args.number; snapshot = None; writes = []; reads = None; kept = kept_first c.args.keeps } in
+    ok_is (StartsKeeping c.args.keeps) c.new.result opened c.new.ensures refl

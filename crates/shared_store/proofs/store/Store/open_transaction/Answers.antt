@@ -13,6 +13,8 @@ use Rattle.workload_spec.specs.declared.reply.Said.TheVariants as said
 use Rattle.shared_store.specs.Making.{Makes}
 use Rattle.shared_store.specs.Store.{opened_at, own_of, seen, shape_in}
 use Rattle.shared_store.specs.declared.session.Session.{Session}
+use Rattle.shared_store.specs.Store.{wrote_of}
+use Rattle.shared_store.proofs.Noted.{still}
 use Rattle.shared_store.proofs.Calls.{begin_refused, no_event, none_open, one_event, told_always}
 use Rattle.shared_store.proofs.Open.{begins_open, busy_of}
 use Rattle.shared_store.proofs.ReadSets.{begun_fit}
@@ -34,10 +36,10 @@ returns g c =
     let mine : IsOfSession s.session c.new-event.result = inl (ap session_of c.new-event.ensures) in
     let m = subst (λ (e : CoreEvent). Makes c.args.self.now s.session s.pass.seat c.make_at_desk.new.pass.seat c.make_at_desk.new.pass.hands (own_of s) e c.make_at_desk.result) c.new-event.ensures
     (c.make_at_desk.ensures s.session (own_of s) c.requires.session.stands mine) in
-    let new : Session = record { pass = c.make_at_desk.new.pass; session = s.session; snapshot = Some c.in-Begun.snapshot; writes = c.clear.new.self; reads = c.start.new.self } in
+    let new : Session = record { pass = c.make_at_desk.new.pass; session = s.session; snapshot = Some c.in-Begun.snapshot; writes = c.clear.new.self; reads = c.start.new.self; kept = s.kept } in
     let both = one_event c.args.self.now s new (command.Begin c.args.checked) (event.Begin s.session) c.make_at_desk.result (said.At c.in-Begun.snapshot.number) c.requires.session refl m refl
     (ap (λ w. Some (opened_at s.session w c.in-Begun.snapshot)) c.clear.ensures ∙ ap (begun_by s.session (own_of s)) (sym c.in-Begun.is))
-    c.start.ensures (subst (ReadsFit (shape_in c.args.self.now)) (sym c.start.ensures) (begun_fit (shape_in c.args.self.now) c.args.checked))
+    c.start.ensures (still (event.Begin s.session) refl s.session c.make_at_desk.result (wrote_of s)) (subst (ReadsFit (shape_in c.args.self.now)) (sym c.start.ensures) (begun_fit (shape_in c.args.self.now) c.args.checked))
     (ap (refusal_of (command.Begin c.args.checked)) none') (λ made. refl)
     (subst (λ (r : CoreReply). TellsLine (own_of s) (command.Begin c.args.checked) r (said.At c.in-Begun.snapshot.number)) (sym c.in-Begun.is) refl) in
     let count = m.count in

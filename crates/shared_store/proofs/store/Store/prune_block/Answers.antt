@@ -52,7 +52,7 @@ returns-clause-keeping g c =
     let st = c.args.self.now in
     let s = c.args.session.now in
     let e : CoreEvent = pruning c.args.oldest c.args.table c.args.block in
-    let new : Session = record { pass = c.make_keeping.new.pass; session = s.session; snapshot = s.snapshot; writes = s.writes; reads = s.reads } in
+    let new : Session = record { pass = c.make_keeping.new.pass; session = s.session; snapshot = s.snapshot; writes = s.writes; reads = s.reads; kept = s.kept } in
     let m = kept_by st (beside_prune c.args.table) c.args.table c.args.block s new.pass.seat new.pass.hands e e c.make_keeping.result c.requires.keeping
     (prune_on_block (shape_in st) c.args.table c.args.block c.args.oldest) refl refl c.make_keeping.ensures in
     kept_on st (beside_prune c.args.table) c.args.block s new e c.make_keeping.result m refl refl c.requires.keeping.fits refl
@@ -62,7 +62,7 @@ returns-clause-prunes g c =
     let st = c.args.self.now in
     let s = c.args.session.now in
     let e : CoreEvent = pruning c.args.oldest c.args.table c.args.block in
-    let new : Session = record { pass = c.make_keeping.new.pass; session = s.session; snapshot = s.snapshot; writes = s.writes; reads = s.reads } in
+    let new : Session = record { pass = c.make_keeping.new.pass; session = s.session; snapshot = s.snapshot; writes = s.writes; reads = s.reads; kept = s.kept } in
     let m = kept_by st (beside_prune c.args.table) c.args.table c.args.block s new.pass.seat new.pass.hands e e c.make_keeping.result c.requires.keeping
     (prune_on_block (shape_in st) c.args.table c.args.block c.args.oldest) refl refl c.make_keeping.ensures in
     alone_kept st (beside_prune c.args.table) s new e c.make_keeping.result (reply.Dropped c.get.result) m (c.in-Dropped.is ∙ ap dropped (sym c.get.ensures.number)) refl refl (refl, c.requires.keeping.fits) refl

@@ -60,7 +60,7 @@ returns-clause-prunes g c =
     let st = c.args.self.now in
     let t = c.args.table in
     let s = c.loop-block.session in
-    let new : Session = record { pass = c.give_back.new.pass; session = s.session; snapshot = s.snapshot; writes = s.writes; reads = s.reads } in
+    let new : Session = record { pass = c.give_back.new.pass; session = s.session; snapshot = s.snapshot; writes = s.writes; reads = s.reads; kept = s.kept } in
     let blocks : c.blocks-block-end.result ≡ blocks_of (shape_in st) t = c.blocks-block-end.ensures.blocks ∙ ap (λ (sh : Shape). blocks_of sh t) (c.shape.ensures ∙ c.self.invariant.shape ∙ ap shape_in c.self.view_is) in
     let done = c.loop-block-test.false in
     let end' = c.loop-block.auto.block-end in

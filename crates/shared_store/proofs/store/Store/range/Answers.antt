@@ -27,7 +27,7 @@ pub returns : goal.returns
 returns g c =
     let st = c.args.self.now in
     let s = c.args.session.now in
-    let new : Session = record { pass = c.read_range.new.pass; session = s.session; snapshot = s.snapshot; writes = s.writes; reads = c.read_range.new.reads } in
+    let new : Session = record { pass = c.read_range.new.pass; session = s.session; snapshot = s.snapshot; writes = s.writes; reads = c.read_range.new.reads; kept = s.kept } in
     let asked : KeyRange = record { table = c.args.table; low = c.args.low; high = c.args.high } in
     let low = to_z-of_z w64 c.args.low c.ranges.low in
     let high = to_z-of_z w64 c.args.high c.ranges.high in
@@ -35,7 +35,7 @@ returns g c =
     let event = c.new-event.ensures ∙ ap₂ (λ (low high : ℤ). ranging c.own_all-own.result c.args.table low high) low high in
     let range = ap₂ (λ (low high : ℤ). range_read (record { table = c.args.table; low = low; high = high }) c.read_range.result s.reads) low high in
     let finds = subst (λ (e : CoreEvent). MayFindRange st s.pass.seat s.pass.hands new.pass.seat new.pass.hands c.args.table e c.args.steps.now c.read_range.new.steps (new.pass ≡ s.pass) c.read_range.result) event c.read_range.ensures.finds in
-    let by = ranges st s new c.own_all-own.result asked c.args.steps.now c.read_range.new.steps c.requires.session c.own_all-own.ensures owns.0 c.requires.table refl refl c.requires.busy
-    c.read_range.result finds (c.read_range.ensures.reads ∙ range) (λ pass reads. subst (λ p. ◌≡◌ {A = Session} (record { pass = p; session = s.session; snapshot = s.snapshot; writes = s.writes; reads = c.read_range.new.reads }) s) (sym pass)
-    (subst (λ (r : Option ReadSet). ◌≡◌ {A = Session} (record { pass = s.pass; session = s.session; snapshot = s.snapshot; writes = s.writes; reads = r }) s) (sym reads) refl)) in
+    let by = ranges st s new c.own_all-own.result asked c.args.steps.now c.read_range.new.steps c.requires.session c.own_all-own.ensures owns.0 c.requires.table refl refl refl c.requires.busy
+    c.read_range.result finds (c.read_range.ensures.reads ∙ range) (λ pass reads. subst (λ p. ◌≡◌ {A = Session} (record { pass = p; session = s.session; snapshot = s.snapshot; writes = s.writes; reads = c.read_range.new.reads; kept = s.kept }) s) (sym pass)
+    (subst (λ (r : Option ReadSet). ◌≡◌ {A = Session} (record { pass = s.pass; session = s.session; snapshot = s.snapshot; writes = s.writes; reads = r; kept = s.kept }) s) (sym reads) refl)) in
     record { session = by.session; same = by.same; answers = by.answers; finds = by.finds; few = by.few; steps = by.looked }

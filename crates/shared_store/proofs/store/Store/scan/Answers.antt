@@ -200,7 +200,7 @@ mark-requires g c =
 pub returns-clause-session : goal.returns-clause-session
 returns-clause-session g c =
     let o = own_open c.args.session.now c.requires.busy in
-    subst (λ (reads : Option ReadSet). IsSession c.args.self.now (record { pass = c.loop-block.session.pass; session = c.loop-block.session.session; snapshot = c.loop-block.session.snapshot; writes = c.loop-block.session.writes; reads = reads })) (sym c.mark.ensures)
+    subst (λ (reads : Option ReadSet). IsSession c.args.self.now (record { pass = c.loop-block.session.pass; session = c.loop-block.session.session; snapshot = c.loop-block.session.snapshot; writes = c.loop-block.session.writes; reads = reads; kept = c.loop-block.session.kept })) (sym c.mark.ensures)
     (swept_session c.args.self.now c.loop-block.session c.args.table c.requires.table (c.loop-block.invariant o.0 o.1).scans.went.session)
 
 pub returns-clause-same : goal.returns-clause-same
@@ -217,7 +217,7 @@ returns-clause-answers g c =
     let done = c.loop-block-test.false in
     let end' = c.loop-block.auto.block-end in
     let all : c.loop-block.block ≡ blocks_of (shape_in st) c.args.table = omega (arith, blocks, done, end') in
-    subst (λ (reads : Option ReadSet). Answers st c.args.session.now (record { pass = c.loop-block.session.pass; session = c.loop-block.session.session; snapshot = c.loop-block.session.snapshot; writes = c.loop-block.session.writes; reads = reads }) (Scan c.args.table) (Scanned c.in_ok-rows.rows)) (sym c.mark.ensures)
+    subst (λ (reads : Option ReadSet). Answers st c.args.session.now (record { pass = c.loop-block.session.pass; session = c.loop-block.session.session; snapshot = c.loop-block.session.snapshot; writes = c.loop-block.session.writes; reads = reads; kept = c.loop-block.session.kept }) (Scan c.args.table) (Scanned c.in_ok-rows.rows)) (sym c.mark.ensures)
     (scan_ends st o.0 c.args.table c.args.session.now c.loop-block.session c.loop-block.read.items c.in_ok-rows.rows c.requires.session o.1
     (subst (λ k. Scans st c.args.session.now c.loop-block.session o.0 c.args.table k c.loop-block.read.items) all s)
     (c.in_ok-rows.ensures c.args.table
@@ -232,7 +232,7 @@ returns-clause-steps g c =
     let done = c.loop-block-test.false in
     let end' = c.loop-block.auto.block-end in
     let all : c.loop-block.block ≡ blocks_of (shape_in st) c.args.table = omega (arith, blocks, done, end') in
-    subst (λ (reads : Option ReadSet). ReadsOnce st c.args.session.now (record { pass = c.loop-block.session.pass; session = c.loop-block.session.session; snapshot = c.loop-block.session.snapshot; writes = c.loop-block.session.writes; reads = reads }) c.args.table (Scanned c.in_ok-rows.rows) c.args.steps.now c.loop-block.steps) (sym c.mark.ensures)
+    subst (λ (reads : Option ReadSet). ReadsOnce st c.args.session.now (record { pass = c.loop-block.session.pass; session = c.loop-block.session.session; snapshot = c.loop-block.session.snapshot; writes = c.loop-block.session.writes; reads = reads; kept = c.loop-block.session.kept }) c.args.table (Scanned c.in_ok-rows.rows) c.args.steps.now c.loop-block.steps) (sym c.mark.ensures)
     (steps_end st o.0 c.args.table c.args.session.now c.loop-block.session c.loop-block.read.items c.args.steps.now c.loop-block.steps c.in_ok-rows.rows c.requires.session o.1
     (subst (λ k. ScansBy st c.args.session.now c.loop-block.session o.0 c.args.table k c.loop-block.read.items c.args.steps.now c.loop-block.steps) all s)
     (c.in_ok-rows.ensures c.args.table
@@ -247,7 +247,7 @@ returns-clause-finds g c =
     let done = c.loop-block-test.false in
     let end' = c.loop-block.auto.block-end in
     let all : c.loop-block.block ≡ blocks_of (shape_in st) c.args.table = omega (arith, blocks, done, end') in
-    subst (λ (reads : Option ReadSet). FindsRows st c.args.session.now (record { pass = c.loop-block.session.pass; session = c.loop-block.session.session; snapshot = c.loop-block.session.snapshot; writes = c.loop-block.session.writes; reads = reads }) c.args.table (Ok c.in_ok-rows.rows)) (sym c.mark.ensures)
+    subst (λ (reads : Option ReadSet). FindsRows st c.args.session.now (record { pass = c.loop-block.session.pass; session = c.loop-block.session.session; snapshot = c.loop-block.session.snapshot; writes = c.loop-block.session.writes; reads = reads; kept = c.loop-block.session.kept }) c.args.table (Ok c.in_ok-rows.rows)) (sym c.mark.ensures)
     (swept_finds st c.args.session.now c.loop-block.session c.args.table (Ok c.in_ok-rows.rows)
     (scan_finds st c.args.session.now c.loop-block.session o.0 c.args.table c.loop-block.read.items (Ok c.in_ok-rows.rows) c.requires.session o.1
     (subst (λ k. Scans st c.args.session.now c.loop-block.session o.0 c.args.table k c.loop-block.read.items) all s)

@@ -15,6 +15,8 @@ use Rattle.workload_spec.specs.declared.reply.Said.TheVariants as said
 use Rattle.shared_store.specs.Making.{Makes, MayMake}
 use Rattle.shared_store.specs.Store.{own_of, reads_of, seen, shape_in}
 use Rattle.shared_store.specs.declared.session.Session.{Session}
+use Rattle.shared_store.specs.Store.{wrote_of}
+use Rattle.shared_store.proofs.Noted.{still}
 use Rattle.shared_store.proofs.Calls.{may_make, one_event, told_always}
 use Rattle.shared_store.proofs.Freezes.{block_there, seals_tell}
 use Rattle.shared_store.proofs.Stays.{call_leaves, seal_asks}
@@ -51,8 +53,8 @@ returns-in-Sealed g c =
     let line = said.Sealed c.args.table c.args.block c.in-Sealed.stamp in
     let m = subst (λ (e : CoreEvent). Makes st s.session s.pass.seat c.make.new.pass.seat c.make.new.pass.hands (own_of s) e c.make.result) c.new-event.ensures
     (c.make.ensures s.session (own_of s) c.requires.session.stands (subst (IsOfSession s.session) (sym c.new-event.ensures) mine)) in
-    let new : Session = record { pass = c.make.new.pass; session = s.session; snapshot = s.snapshot; writes = s.writes; reads = s.reads } in
-    let both = one_event st s new asked e c.make.result line c.requires.session refl m refl refl refl c.requires.session.fits refl (λ made. refl)
+    let new : Session = record { pass = c.make.new.pass; session = s.session; snapshot = s.snapshot; writes = s.writes; reads = s.reads; kept = s.kept } in
+    let both = one_event st s new asked e c.make.result line c.requires.session refl m refl refl refl (still e refl s.session c.make.result (wrote_of s)) c.requires.session.fits refl (λ made. refl)
     (subst (λ (r : CoreReply). TellsLine (own_of s) asked r line) (sym c.in-Sealed.is) refl) in
     let count = m.count in
     record {
@@ -74,8 +76,8 @@ returns-in-NotSealed g c =
     let line = said.NotSealed (cause_told c.in-NotSealed.fault) in
     let m = subst (λ (e : CoreEvent). Makes st s.session s.pass.seat c.make.new.pass.seat c.make.new.pass.hands (own_of s) e c.make.result) c.new-event.ensures
     (c.make.ensures s.session (own_of s) c.requires.session.stands (subst (IsOfSession s.session) (sym c.new-event.ensures) mine)) in
-    let new : Session = record { pass = c.make.new.pass; session = s.session; snapshot = s.snapshot; writes = s.writes; reads = s.reads } in
-    let both = one_event st s new asked e c.make.result line c.requires.session refl m refl refl refl c.requires.session.fits refl (λ made. refl)
+    let new : Session = record { pass = c.make.new.pass; session = s.session; snapshot = s.snapshot; writes = s.writes; reads = s.reads; kept = s.kept } in
+    let both = one_event st s new asked e c.make.result line c.requires.session refl m refl refl refl (still e refl s.session c.make.result (wrote_of s)) c.requires.session.fits refl (λ made. refl)
     (subst (λ (r : CoreReply). TellsLine (own_of s) asked r line) (sym c.in-NotSealed.is) refl) in
     let count = m.count in
     record {

@@ -99,7 +99,7 @@ returns-in-Ok-clause-sees g c own is =
     let s = c.args.session.now in
     let t = c.take_body-body.new.pass in
     let u = c.lend_held.new.pass in
-    let new : Session = record { pass = c.give_alone.new.pass; session = s.session; snapshot = s.snapshot; writes = s.writes; reads = s.reads } in
+    let new : Session = record { pass = c.give_alone.new.pass; session = s.session; snapshot = s.snapshot; writes = s.writes; reads = s.reads; kept = s.kept } in
     let e : CoreEvent = event.Read own c.args.table c.args.block in
     let takes = c.take_body-body.ensures.takes e (read_on_body (shape_in st) own c.args.table c.args.block) s.session (own_of s) c.requires.session.stands in
     let held = c.in-Ok.ensures s.session (own_of s) takes.within in
@@ -112,7 +112,7 @@ returns-in-Err-Memory-clause-sees g c own is =
     let s = c.args.session.now in
     let t = c.take_body-body.new.pass in
     let u = c.lend_held.new.pass in
-    let new : Session = record { pass = c.give_alone-in-Err-Memory.new.pass; session = s.session; snapshot = s.snapshot; writes = s.writes; reads = s.reads } in
+    let new : Session = record { pass = c.give_alone-in-Err-Memory.new.pass; session = s.session; snapshot = s.snapshot; writes = s.writes; reads = s.reads; kept = s.kept } in
     let e : CoreEvent = event.Read own c.args.table c.args.block in
     let takes = c.take_body-body.ensures.takes e (read_on_body (shape_in st) own c.args.table c.args.block) s.session (own_of s) c.requires.session.stands in
     let held = subst (λ (f : LendFault). LendsHeld st s.session t.seat u.seat t.hands u.hands (own_of s) c.args.table c.args.block (Err f)) c.in-Err-Memory.field-0-is
@@ -127,7 +127,7 @@ returns-in_err-read-in-Err-NotLent-clause-sees g c own is =
     let t = c.take_body-body.new.pass in
     let u = c.lend_held.new.pass in
     let v = c.read_held-read.new.pass in
-    let new : Session = record { pass = c.give_alone-in-Err-NotLent.new.pass; session = s.session; snapshot = s.snapshot; writes = s.writes; reads = s.reads } in
+    let new : Session = record { pass = c.give_alone-in-Err-NotLent.new.pass; session = s.session; snapshot = s.snapshot; writes = s.writes; reads = s.reads; kept = s.kept } in
     let e : CoreEvent = event.Read own c.args.table c.args.block in
     let takes = c.take_body-body.ensures.takes e (read_on_body (shape_in st) own c.args.table c.args.block) s.session (own_of s) c.requires.session.stands in
     let held = subst (λ (f : LendFault). LendsHeld st s.session t.seat u.seat t.hands u.hands (own_of s) c.args.table c.args.block (Err f)) c.in-Err-NotLent.field-0-is
@@ -152,7 +152,7 @@ returns-in_ok-read-in-Err-NotLent-clause-sees g c own is =
     let t = c.take_body-body.new.pass in
     let u = c.lend_held.new.pass in
     let v = c.read_held-read.new.pass in
-    let new : Session = record { pass = c.give_alone-in-Err-NotLent.new.pass; session = s.session; snapshot = s.snapshot; writes = s.writes; reads = s.reads } in
+    let new : Session = record { pass = c.give_alone-in-Err-NotLent.new.pass; session = s.session; snapshot = s.snapshot; writes = s.writes; reads = s.reads; kept = s.kept } in
     let e : CoreEvent = event.Read own c.args.table c.args.block in
     let takes = c.take_body-body.ensures.takes e (read_on_body (shape_in st) own c.args.table c.args.block) s.session (own_of s) c.requires.session.stands in
     let held = subst (λ (f : LendFault). LendsHeld st s.session t.seat u.seat t.hands u.hands (own_of s) c.args.table c.args.block (Err f)) c.in-Err-NotLent.field-0-is

@@ -208,7 +208,7 @@ pub returns-clause-session : goal.returns-clause-session
 returns-clause-session g c =
     let o = own_open c.args.session.now c.requires.busy in
     let has = has_table (shape_in c.args.self.now).tables c.args.table c.args.column c.args.low c.args.high c.requires.column in
-    subst (λ (reads : Option ReadSet). IsSession c.args.self.now (record { pass = c.loop-block.session.pass; session = c.loop-block.session.session; snapshot = c.loop-block.session.snapshot; writes = c.loop-block.session.writes; reads = reads })) (sym c.mark.ensures)
+    subst (λ (reads : Option ReadSet). IsSession c.args.self.now (record { pass = c.loop-block.session.pass; session = c.loop-block.session.session; snapshot = c.loop-block.session.snapshot; writes = c.loop-block.session.writes; reads = reads; kept = c.loop-block.session.kept })) (sym c.mark.ensures)
     (swept_session c.args.self.now c.loop-block.session c.args.table has (c.loop-block.invariant o.0 o.1).scans.went.session)
 
 pub returns-clause-same : goal.returns-clause-same
@@ -225,7 +225,7 @@ returns-clause-answers g c =
     let done = c.loop-block-test.false in
     let end' = c.loop-block.auto.block-end in
     let all : c.loop-block.block ≡ blocks_of (shape_in st) c.args.table = omega (arith, blocks, done, end') in
-    subst (λ (reads : Option ReadSet). Answers st c.args.session.now (record { pass = c.loop-block.session.pass; session = c.loop-block.session.session; snapshot = c.loop-block.session.snapshot; writes = c.loop-block.session.writes; reads = reads })
+    subst (λ (reads : Option ReadSet). Answers st c.args.session.now (record { pass = c.loop-block.session.pass; session = c.loop-block.session.session; snapshot = c.loop-block.session.snapshot; writes = c.loop-block.session.writes; reads = reads; kept = c.loop-block.session.kept })
     (Total c.args.table c.args.column c.args.low c.args.high) (Totalled c.loop-block.count (to_z w128 c.loop-block.sum-bits))) (sym c.mark.ensures)
     (once_as st c.args.session.now (swept c.args.table c.loop-block.session) c.args.table c.wanted_of-wanted.result.column c.args.column c.wanted_of-wanted.result.low c.wanted_of-wanted.result.high c.args.low c.args.high
     (Totalled c.loop-block.count (to_z w128 c.loop-block.sum-bits)) c.args.steps.now c.loop-block.steps c.wanted_of-wanted.ensures.column
@@ -242,7 +242,7 @@ returns-clause-finds g c =
     let done = c.loop-block-test.false in
     let end' = c.loop-block.auto.block-end in
     let all : c.loop-block.block ≡ blocks_of (shape_in st) c.args.table = omega (arith, blocks, done, end') in
-    subst (λ (reads : Option ReadSet). FindsTotal st c.args.session.now (record { pass = c.loop-block.session.pass; session = c.loop-block.session.session; snapshot = c.loop-block.session.snapshot; writes = c.loop-block.session.writes; reads = reads })
+    subst (λ (reads : Option ReadSet). FindsTotal st c.args.session.now (record { pass = c.loop-block.session.pass; session = c.loop-block.session.session; snapshot = c.loop-block.session.snapshot; writes = c.loop-block.session.writes; reads = reads; kept = c.loop-block.session.kept })
     c.args.table c.args.column c.args.low c.args.high (Ok (record { count = c.loop-block.count; sum = to_z w128 c.loop-block.sum-bits }))) (sym c.mark.ensures)
     (finds_as st c.args.session.now (swept c.args.table c.loop-block.session) c.args.table c.wanted_of-wanted.result.column c.args.column c.wanted_of-wanted.result.low c.wanted_of-wanted.result.high c.args.low c.args.high
     (Ok (record { count = c.loop-block.count; sum = to_z w128 c.loop-block.sum-bits })) c.wanted_of-wanted.ensures.column
@@ -270,7 +270,7 @@ returns-clause-steps g c =
     let done = c.loop-block-test.false in
     let end' = c.loop-block.auto.block-end in
     let all : c.loop-block.block ≡ blocks_of (shape_in st) c.args.table = omega (arith, blocks, done, end') in
-    subst (λ (reads : Option ReadSet). TotalsOnce st c.args.session.now (record { pass = c.loop-block.session.pass; session = c.loop-block.session.session; snapshot = c.loop-block.session.snapshot; writes = c.loop-block.session.writes; reads = reads })
+    subst (λ (reads : Option ReadSet). TotalsOnce st c.args.session.now (record { pass = c.loop-block.session.pass; session = c.loop-block.session.session; snapshot = c.loop-block.session.snapshot; writes = c.loop-block.session.writes; reads = reads; kept = c.loop-block.session.kept })
     c.args.table c.args.column c.args.low c.args.high (Totalled c.loop-block.count (to_z w128 c.loop-block.sum-bits)) c.args.steps.now c.loop-block.steps) (sym c.mark.ensures)
     (once_as st c.args.session.now (swept c.args.table c.loop-block.session) c.args.table c.wanted_of-wanted.result.column c.args.column c.wanted_of-wanted.result.low c.wanted_of-wanted.result.high c.args.low c.args.high
     (Totalled c.loop-block.count (to_z w128 c.loop-block.sum-bits)) c.args.steps.now c.loop-block.steps c.wanted_of-wanted.ensures.column

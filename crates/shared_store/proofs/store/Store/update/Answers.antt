@@ -9,6 +9,10 @@ use Rattle.shared_store.specs.Changing.{IsChangeBy, IsChangeOf, IsChangeTo}
 use Rattle.shared_store.specs.Open.{WritesRow}
 use Rattle.shared_store.specs.Store.{Answers, own_of, shape_in}
 use Rattle.shared_store.specs.Told.{written_told}
+use Rattle.std.specs.Prelude.{IfOk}
+use Rattle.shared_store.specs.Commits.{MayLeaveRow}
+use Rattle.shared_store.specs.Store.{wrote_of}
+use Rattle.shared_store.proofs.Noted.{leaves_copy}
 use Rattle.shared_store.proofs.Calls.{key_handed, own_open}
 use Rattle.shared_store.proofs.Changed.{update_by, update_changes, update_to}
 use Rattle.shared_store.proofs.Wrote.{fits_there}
@@ -27,6 +31,14 @@ change_row-requires-clause-change g c =
     subst (λ (place : Place). IsChangeOf (shape_in st) s.session (own_of s) place c.new-event.result) (sym c.place_in-place.ensures.place)
     (subst (λ (e : CoreEvent). IsChangeOf (shape_in st) s.session (own_of s) (place_of c.args.table c.args.row) e) (sym is_event)
     (update_changes st s o.0 c.requires.session o.1 c.args.table c.args.row fits.0 fits.1))
+
+pub change_row-requires-clause-leaves : goal.change_row-requires-clause-leaves
+change_row-requires-clause-leaves g c =
+    let s = c.args.session.now in
+    subst (λ (place : Place). IfOk c.copy-copy.result (MayLeaveRow (wrote_of s) place c.new-event.result)) (sym c.place_in-place.ensures.place)
+    (subst (λ (e : CoreEvent). IfOk c.copy-copy.result (MayLeaveRow (wrote_of s) (place_of c.args.table c.args.row) e)) (sym c.new-event.ensures)
+    (leaves_copy c.copy-copy.result (wrote_of s) (place_of c.args.table c.args.row) c.args.row (event.Update c.own_key-own.result c.args.table c.args.row) c.copy-copy.ensures
+    (record { own = λ own told. refl; none = λ own told. refl })))
 
 pub returns-clause-answers : goal.returns-clause-answers
 returns-clause-answers g c =
