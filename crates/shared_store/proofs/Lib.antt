@@ -20,9 +20,11 @@ pub mod Pruned
 pub mod Ranged
 pub mod ReadSets
 pub mod Rested
+pub mod Places
 mod Rows
 pub mod Scanned
 pub mod Sessions
+pub mod Settled
 pub mod Shown
 pub mod Swept
 pub mod Thaws

@@ -10,7 +10,7 @@ use Rattle.std.specs.Ordering.{is_eq, match_ordering, ordering_reverse}
 use Rattle.core_laws.proofs.Events.Slots.{num, num_refl}
 use Rattle.isolation_spec.specs.Contents.{PlaceMap, at_place, is_place, place_cmp}
 use Rattle.isolation_spec.specs.declared.place.Place.{Place}
-use Rattle.kept_commits.proofs.Places.{itself, laid_away, same}
+use Rattle.shared_store.proofs.Places.{itself, laid_away, same}
 use Rattle.shared_store.specs.Writing.{roomed}
 
 -- the last of two values laid at one place stands

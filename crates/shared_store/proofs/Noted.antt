@@ -23,7 +23,7 @@ use Rattle.run_spec.specs.Commits.{SessionWrites, commit_by, commit_told, entere
 use Rattle.run_spec.specs.Occurrences.{Occurrence, events_in, replies_in}
 use Rattle.store_laws.specs.Own.{occurrence_at}
 use Rattle.shared_store.specs.Changing.{HasMade}
-use Rattle.kept_commits.specs.Kept.{with_change, with_commit, without_own}
+use Rattle.shared_store.specs.KeptCommits.{with_change, with_commit, without_own}
 use Rattle.shared_store.specs.Commits.{KeepsChange, LeavesRow, MayLeaveRow, WritesNothing, written_behind}
 use Rattle.shared_store.specs.Writing.{is_accepted_in}
 use Rattle.shared_store.specs.Store.{Notes, notes_of, reads_of, wrote_of}

@@ -6,9 +6,9 @@ use Rattle.event_spec.specs.Effects.{CoreEvent}
 use Rattle.event_spec.specs.Replies.{CoreReply}
 use Rattle.isolation_spec.specs.Contents.{WriteSet}
 use Rattle.isolation_spec.specs.declared.place.Place.{Place}
-use Rattle.kept_commits.specs.Kept.{with_change}
-pub use Rattle.kept_commits.specs.Kept.{commits_in, kept_first, with_commit, without_commits}
-pub use Rattle.kept_commits.specs.Kept.{without_first, without_own}
+use Rattle.shared_store.specs.KeptCommits.{with_change}
+pub use Rattle.shared_store.specs.KeptCommits.{commits_in, kept_first, with_commit, without_commits}
+pub use Rattle.shared_store.specs.KeptCommits.{without_first, without_own}
 use Rattle.outcome_spec.specs.Entries.{is_accepted}
 use Rattle.run_spec.specs.Commits.{SessionWrites, commit_by, entered, own_written, says, writes_behind}
 use Rattle.run_spec.specs.Occurrences.{Occurrence}

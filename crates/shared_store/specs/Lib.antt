@@ -1,10 +1,12 @@
 pub mod Alone
 pub mod Building
 pub mod Changing
+pub mod Commits
 pub mod Compacting
+pub mod Entering
 pub mod Freezing
 pub mod Keeping
-pub mod Commits
+pub mod KeptCommits
 pub mod Lending
 pub mod Making
 pub mod Meeting

@@ -3,7 +3,7 @@ ghost use Rattle.std.specs.Prelude.{◌≡◌, ◌+◌, ◌-◌, ◌≤◌, ◌+
 ghost use Rattle.engine_core.specs.Core.{IsOpening, MayOpen};
 ghost use Rattle.event_spec.specs.Sound.{IsShape};
 ghost use Rattle.shared_store.specs.Building.{HasSessions, IsNewRow, IsNewSession, StartsKeeping};
-ghost use Rattle.kept_commits.specs.Kept.{kept_first};
+ghost use Rattle.shared_store.specs.KeptCommits.{kept_first};
 ghost use Rattle.shared_store.specs.Store.{shape_in};
 
 use crate::reads::Reads;
@@ -13,7 +13,7 @@ use crate::writes::Writes;
 use cell_model::TableDecl;
 use engine_core::Core;
 use hall_steps::{Hall, Pass};
-use kept_commits::KeptCommits;
+use crate::kept_commits::KeptCommits;
 use std::alloc::{AllocError, Global};
 
 /// A store that was just built, with its sessions, and behind them one more for each worker, who

@@ -30,7 +30,7 @@ use engine_core::{Core, CoreReply, imaged};
 use event_spec::{Event, Reply};
 use hall_steps::Pass;
 use isolation_spec::Place;
-use kept_commits::KeptCommits;
+use crate::kept_commits::KeptCommits;
 use std::alloc::AllocError;
 use std::sync::{Arc, Wait};
 

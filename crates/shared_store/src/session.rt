@@ -1,7 +1,7 @@
 //! A session of a store.
 ghost use Rattle.std.specs.Prelude.{◌≡◌, ◌<◌, ℕ, true, Some, drop, length, option_map, is_some};
 ghost use Rattle.run_spec.specs.Opened.{least_written, own_key};
-ghost use Rattle.kept_commits.specs.Kept.{commits_in};
+ghost use Rattle.shared_store.specs.KeptCommits.{commits_in};
 ghost use Rattle.shared_store.specs.Store.{KeepsCommits, StoreView, events_made, handed_over};
 ghost use Rattle.shared_store.specs.Store.{own_of, own_writes, swept, wrote_of};
 
@@ -11,7 +11,7 @@ use engine_core::Core;
 use event_spec::{OwnKey, OwnTransaction};
 use hall_steps::Pass;
 use isolation_spec::Place;
-use kept_commits::KeptCommits;
+use crate::kept_commits::KeptCommits;
 use run_spec::Commit;
 use std::sync::Wait;
 use txn_desk::Snapshot;

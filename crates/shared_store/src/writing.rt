@@ -26,7 +26,7 @@ use engine_core::{Core, CoreReply};
 use event_spec::Event;
 use hall_steps::Pass;
 use isolation_spec::Place;
-use kept_commits::KeptCommits;
+use crate::kept_commits::KeptCommits;
 use std::alloc::AllocError;
 use std::sync::{Arc, Wait};
 

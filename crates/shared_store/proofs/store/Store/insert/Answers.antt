@@ -25,7 +25,7 @@ use Rattle.event_spec.specs.Parts.{Parts}
 use Rattle.outcome_spec.specs.Entries.{is_accepted}
 use Rattle.run_spec.specs.Commits.{SessionWrites, says}
 use Rattle.store_laws.specs.Own.{occurrence_at}
-use Rattle.kept_commits.specs.Kept.{with_change}
+use Rattle.shared_store.specs.KeptCommits.{with_change}
 use Rattle.shared_store.specs.Commits.{MayLeaveRow, written_behind}
 use Rattle.shared_store.specs.Store.{wrote_of}
 use Rattle.shared_store.proofs.Noted.{leaves_copy, wrote_one}

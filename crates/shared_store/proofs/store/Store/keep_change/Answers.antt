@@ -1,6 +1,6 @@
 use Rattle.std.proofs.Common.{◌≡◌, option_map, ap, ◌∙◌}
-use Rattle.kept_commits.specs.Kept.{with_change}
-use Rattle.kept_commits.proofs.Settled.{held_for}
+use Rattle.shared_store.specs.KeptCommits.{with_change}
+use Rattle.shared_store.proofs.Settled.{held_for}
 use Rattle.shared_store.specs.Writing.{is_accepted_in}
 use Rattle.shared_store.proofs.Noted.{change_kept, change_left}
 use Rattle.shared_store.proofs.store.Store.keep_change.Goals as goal

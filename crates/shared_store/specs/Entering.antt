@@ -2,7 +2,7 @@
 use Rattle.std.specs.Prelude.{◌≡◌, true, false, Option, None, Some, IfSome, is_some}
 use Rattle.isolation_spec.specs.Contents.{at_place}
 use Rattle.isolation_spec.specs.declared.place.Place.{Place}
-use Rattle.kept_commits.specs.Kept.{RowView, WritesView, with_change}
+use Rattle.shared_store.specs.KeptCommits.{RowView, WritesView, with_change}
 
 -- It was entered, or held back where the place was written already.
 abbrev pub IsEntered

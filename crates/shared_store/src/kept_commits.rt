@@ -1,10 +1,10 @@
 //! What a session keeps of its commits, or that it keeps none.
 ghost use Rattle.std.specs.Prelude.{◌≡◌, true, IfOk, OnErr, Option, Some, is_some, option_map};
-ghost use Rattle.kept_commits.specs.Around.{MayBeEntered, MayBeHeldFor};
-ghost use Rattle.kept_commits.specs.Kept.{RowView, WritesView, commits_in, kept_first, with_change};
-ghost use Rattle.kept_commits.specs.Kept.{with_commit, without_commits, without_own};
+ghost use Rattle.shared_store.specs.Entering.{MayBeEntered, MayBeHeldFor};
+ghost use Rattle.shared_store.specs.KeptCommits.{RowView, WritesView, commits_in, kept_first, with_change};
+ghost use Rattle.shared_store.specs.KeptCommits.{with_commit, without_commits, without_own};
 
-use crate::writes::SessionWrites;
+use crate::session_writes::SessionWrites;
 use cell_model::Row;
 use isolation_spec::Place;
 use run_spec::Commit;
@@ -21,7 +21,7 @@ pub struct KeptCommits {
 
 impl Model for KeptCommits {
     ghost use Rattle.std.specs.Prelude.{None, Option, Some, if◌then◌else◌};
-    ghost use Rattle.kept_commits.specs.Kept.{WritesView};
+    ghost use Rattle.shared_store.specs.KeptCommits.{WritesView};
 
     ghost Value = { Option WritesView };
 

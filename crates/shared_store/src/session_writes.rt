@@ -3,9 +3,9 @@ ghost use Rattle.std.specs.Prelude.{◌≡◌, ◌≤◌, [], true, IfOk, OnErr,
 ghost use Rattle.std.specs.Prelude.{vec_capacity};
 ghost use Rattle.std.specs.Map.{remove_entry};
 ghost use Rattle.isolation_spec.specs.Contents.{at_place, is_place};
-ghost use Rattle.kept_commits.specs.Around.{IsEntered, IsHeldFor};
-ghost use Rattle.kept_commits.specs.Kept.{RowView, WritesView, nothing_written, with_change};
-ghost use Rattle.kept_commits.specs.Kept.{with_commit, without_commits, without_own};
+ghost use Rattle.shared_store.specs.Entering.{IsEntered, IsHeldFor};
+ghost use Rattle.shared_store.specs.KeptCommits.{RowView, WritesView, nothing_written, with_change};
+ghost use Rattle.shared_store.specs.KeptCommits.{with_commit, without_commits, without_own};
 
 use cell_model::Row;
 use isolation_spec::{Place, WriteSet};
@@ -31,7 +31,7 @@ pub(crate) struct SessionWrites {
 
 impl Model for SessionWrites {
     ghost use Rattle.std.specs.Prelude.{◌≡◌, [], length, vec_capacity, vec_len};
-    ghost use Rattle.kept_commits.specs.Kept.{HasRoom, WritesView};
+    ghost use Rattle.shared_store.specs.KeptCommits.{HasRoom, WritesView};
 
     ghost Value = { WritesView };
 

@@ -3,9 +3,9 @@ use Rattle.std.proofs.Common.{◌≡◌, true, false, Option, None, Some, is_som
 use Rattle.std.specs.Map.{remove_entry}
 use Rattle.isolation_spec.specs.Contents.{WriteSet, at_place, is_place}
 use Rattle.isolation_spec.specs.declared.place.Place.{Place}
-use Rattle.kept_commits.specs.Around.{IsEntered, MayBeEntered, MayBeHeldFor}
-use Rattle.kept_commits.specs.Kept.{RowView, WritesView, with_change}
-use Rattle.kept_commits.proofs.Places.{laid_away}
+use Rattle.shared_store.specs.Entering.{IsEntered, MayBeEntered, MayBeHeldFor}
+use Rattle.shared_store.specs.KeptCommits.{RowView, WritesView, with_change}
+use Rattle.shared_store.proofs.Places.{laid_away}
 
 -- what was entered for a write that was refused is taken away
 pub entered_away : (place : Place) (change : Option RowView) (before now new : WritesView) → IsEntered place change before now None
