@@ -6,6 +6,7 @@ ghost use Rattle.shared_store.specs.Building.{HasSessions, IsNewRow, IsNewSessio
 ghost use Rattle.shared_store.specs.KeptCommits.{kept_first};
 ghost use Rattle.shared_store.specs.Store.{shape_in};
 
+use crate::kept_commits::KeptCommits;
 use crate::reads::Reads;
 use crate::session::Session;
 use crate::store::Store;
@@ -13,7 +14,6 @@ use crate::writes::Writes;
 use cell_model::TableDecl;
 use engine_core::Core;
 use hall_steps::{Hall, Pass};
-use crate::kept_commits::KeptCommits;
 use std::alloc::{AllocError, Global};
 
 /// A store that was just built, with its sessions, and behind them one more for each worker, who

@@ -21,6 +21,7 @@ ghost use Rattle.shared_store.specs.Told.{written_told};
 ghost use Rattle.shared_store.specs.Writing.{Settles};
 
 use crate::faults::StoreFault;
+use crate::kept_commits::KeptCommits;
 use crate::session::Session;
 use crate::store::Store;
 use crate::writes::{Writes, answer_of, is_accepted, make_room, settle};
@@ -30,7 +31,6 @@ use engine_core::{Core, CoreReply, imaged};
 use event_spec::{Event, Reply};
 use hall_steps::Pass;
 use isolation_spec::Place;
-use crate::kept_commits::KeptCommits;
 use std::alloc::AllocError;
 use std::sync::{Arc, Wait};
 

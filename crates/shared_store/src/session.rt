@@ -5,13 +5,13 @@ ghost use Rattle.shared_store.specs.KeptCommits.{commits_in};
 ghost use Rattle.shared_store.specs.Store.{KeepsCommits, StoreView, events_made, handed_over};
 ghost use Rattle.shared_store.specs.Store.{own_of, own_writes, swept, wrote_of};
 
+use crate::kept_commits::KeptCommits;
 use crate::reads::Reads;
 use crate::writes::Writes;
 use engine_core::Core;
 use event_spec::{OwnKey, OwnTransaction};
 use hall_steps::Pass;
 use isolation_spec::Place;
-use crate::kept_commits::KeptCommits;
 use run_spec::Commit;
 use std::sync::Wait;
 use txn_desk::Snapshot;

@@ -16,6 +16,7 @@ ghost use Rattle.shared_store.specs.Writing.{FoundFull, Settles};
 ghost use Rattle.shared_store.specs.declared.faults.StoreFault.TheVariants as refused;
 
 use crate::faults::StoreFault;
+use crate::kept_commits::KeptCommits;
 use crate::session::Session;
 use crate::store::Store;
 use crate::writes::{Writes, answer_of, is_accepted, make_room, settle};
@@ -26,7 +27,6 @@ use engine_core::{Core, CoreReply};
 use event_spec::Event;
 use hall_steps::Pass;
 use isolation_spec::Place;
-use crate::kept_commits::KeptCommits;
 use std::alloc::AllocError;
 use std::sync::{Arc, Wait};
 
