@@ -1,7 +1,10 @@
 //! Building a store.
-ghost use Rattle.std.specs.Prelude.{◌≡◌, ◌+◌, ◌-◌, ◌≤◌, ◌++◌, [], All, IfOk, None, false};
+ghost use Rattle.std.specs.Prelude.{◌≡◌, ◌+◌, ◌-◌, ◌≤◌, ◌++◌, ℕ, [], All, IfErr, IfOk, None, false, true};
+ghost use Rattle.core_parts.specs.declared.start_fault.StartFault.TheVariants as start;
+ghost use Rattle.core_parts.specs.FirstRows.{IsFirstFull};
 ghost use Rattle.engine_core.specs.Core.{IsOpening, MayOpen};
 ghost use Rattle.event_spec.specs.Sound.{IsShape};
+ghost use Rattle.isolation_spec.specs.Commits.{AreCommitsOf};
 ghost use Rattle.shared_store.specs.Building.{HasSessions, IsNewRow, IsNewSession, StartsKeeping};
 ghost use Rattle.shared_store.specs.KeptCommits.{kept_first};
 ghost use Rattle.shared_store.specs.Store.{shape_in};
@@ -12,8 +15,9 @@ use crate::session::Session;
 use crate::store::Store;
 use crate::writes::Writes;
 use cell_model::TableDecl;
-use engine_core::Core;
+use engine_core::{Core, StartFault};
 use hall_steps::{Hall, Pass};
+use isolation_spec::History;
 use std::alloc::{AllocError, Global};
 
 /// A store that was just built, with its sessions, and behind them one more for each worker, who
@@ -156,5 +160,45 @@ impl Store {
     {
         let core = Core::new(alloc, tables, sessions + workers)?;
         Store::raise(alloc, core, sessions, workers, false)
+    }
+
+    /// Builds a store of these tables, whose history begins with these commits of them, with so many
+    /// sessions and workers. They keep the commits that they make until these are taken.
+    ///
+    /// # Errors
+    ///
+    /// The commits leave a table more rows than it takes, of which the first is named; or there is no
+    /// memory.
+    pub fn build_from(
+        alloc: Global,
+        tables: Vec<TableDecl>,
+        sessions: u32,
+        workers: u32,
+        first: &History,
+    ) -> Result<Built, StartFault>
+        requires size { MayOpen tables.items (sessions + workers) }
+        requires some { 1 ≤ sessions + workers }
+        requires commits { AreCommitsOf tables.items first.now }
+        ensures shape { IfOk result (λ built.
+            shape_in built.store ≡ record {
+              tables = tables.items;
+              passes = sessions + workers;
+              first = first.now;
+            }) }
+        ensures measures { IfOk result (λ built. IsShape (shape_in built.store)) }
+        ensures sessions { IfOk result (λ built.
+            IsNewRow built.store sessions built.sessions.items) }
+        ensures row { IfOk result (λ built. IsNewRow built.store (sessions + workers)
+            (built.sessions.items ++ built.workers.items)) }
+        ensures keep { IfOk result (λ built.
+            All (StartsKeeping true) (built.sessions.items ++ built.workers.items)) }
+        ensures full { IfErr result (λ fault. (table : ℕ) → fault ≡ start.Full table
+            → IsFirstFull
+            (record { tables = tables.items; passes = sessions + workers; first = first.now })
+            table) }
+    {
+        let core = Core::build_from(alloc, tables, sessions + workers, first)?;
+        let built = Store::raise(alloc, core, sessions, workers, true)?;
+        Ok(built)
     }
 }

@@ -30,6 +30,7 @@ mod writes;
 pub mod writing;
 
 pub use building::Built;
+pub use engine_core::StartFault;
 pub use faults::{Busy, Stale, StoreFault};
 pub use lane_filter::Total;
 pub use lending::{Lend, LendFault};
