@@ -24,7 +24,7 @@ use Rattle.workload_spec.specs.declared.reply.Said.{Said}
 use Rattle.shared_store.specs.Building.{IsNewSession, StartsKeeping}
 use Rattle.shared_store.specs.Commits.{without_first, written_behind}
 use Rattle.shared_store.specs.KeptCommits.{nothing_written}
-use Rattle.shared_store.specs.Store.{Answers, KeepsCommits, KeepsOn, StoreView, own_writes, seen, shape_in, wrote_of}
+use Rattle.shared_store.specs.Store.{Answers, IsSession, KeepsCommits, KeepsOn, StoreView, handed_over, own_writes, seen, shape_in, wrote_of}
 use Rattle.shared_store.specs.declared.session.Session.{Session}
 use Rattle.shared_store.proofs.Noted.{one_none, writes_none}
 
@@ -132,6 +132,10 @@ kept_on taken (o ∷ made) w within =
       ap (λ commits. fold writes_behind (with_commits (own_written w.own o.event o.reply) commits) made) (sym (drop_grown taken w.commits more within)) ∙ rest.0,
       rest.1,
     )
+
+-- a session from which its commits were taken is one
+pub handed_session : (store : StoreView) (s : Session) → IsSession store s → IsSession store (handed_over s)
+handed_session store s is = record { stands = is.stands; own = is.own; lawful = is.lawful; named = is.named; fits = is.fits }
 
 -- A session that was just built, and keeps its commits, keeps all of them.
 pub keeps_new : (store : StoreView) (number : ℕ) (s : Session) → IsNewSession store number s → StartsKeeping true s → KeepsCommits store 0 s
