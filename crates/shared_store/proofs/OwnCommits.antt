@@ -1,18 +1,16 @@
 -- What a session keeps of its commits, along its calls: what its own events wrote, but what was taken.
-use Rattle.std.proofs.Common.{◌≡◌, ◌≤◌, ◌+◌, ℕ, zero, suc, ◌==◌, Bool, true, false, cond, List, [], ◌∷◌, ◌++◌, Option, Some, drop, fold, length, option_map, refl, sym, ap, subst, ◌∙◌, arith, length-append}
+use Rattle.std.proofs.Common.{◌≡◌, ◌≤◌, ℕ, zero, suc, ◌==◌, Bool, true, false, cond, List, [], ◌∷◌, ◌++◌, Some, drop, fold, length, refl, sym, ap, subst, ◌∙◌, arith, length-append}
 use Rattle.std.proofs.lemmas.List.Sums.{fold-append}
 use Rattle.core_laws.proofs.Sound.Bodies.{true_false}
 use Rattle.event_spec.specs.declared.event.Event.TheVariants as event
 use Rattle.event_spec.specs.Effects.{CoreEvent}
 use Rattle.event_spec.specs.Parts.{Parts, Shape}
-use Rattle.event_spec.specs.Replay.{after, reply_after}
-use Rattle.event_spec.specs.Replies.{CoreReply}
+use Rattle.event_spec.specs.Replay.{after}
 use Rattle.isolation_spec.specs.Contents.{WriteSet}
 use Rattle.run_spec.specs.Commits.{SessionWrites, commit_by, own_written, writes_behind, writes_of}
 use Rattle.run_spec.specs.declared.commit.Commit.{Commit}
-use Rattle.run_spec.specs.Handed.{Called, Stretch, own_in, parts_left}
+use Rattle.run_spec.specs.Handed.{Stretch, own_in, parts_left}
 use Rattle.run_spec.specs.Occurrences.{Logged, Occurrence, occurrence_of, occurrences_from, under}
-use Rattle.run_spec.specs.Told.{is_shared}
 use Rattle.run_spec.specs.Traces.{Action, EachAlong, MayLend, as_log, log_in}
 use Rattle.store_laws.proofs.Lends.{lend_leaves, no_image_told}
 use Rattle.store_laws.proofs.Lent.{events_grown, own_events}
