@@ -1,15 +1,15 @@
 //! The commits that a session keeps, taken behind transactions and across an open one, and stores
 //! that begin with commits.
-ghost use Rattle.std.specs.Prelude.{◌≡◌, ◌≤◌, ◌<◌, ◌^◌, [], IfOk, OnOk, length};
+ghost use Rattle.std.specs.Prelude.{◌≡◌, ◌≤◌, ◌^◌, IfOk, IfSome, OnOk, length};
 ghost use Rattle.isolation_spec.specs.Commits.{AreCommitsOf, IsCommitOf};
 ghost use Rattle.shared_store.specs.Building.{MayOpen};
 ghost use Rattle.shared_store.specs.Store.{HasRoomFor, MakesAtMost, shape_in};
 ghost use Rattle.store_rounds.specs.Sessions.{IsFreeSession};
 
-use crate::turns::{Change, table, write_open};
+use crate::turns::{Change, row_of, table, write_open};
 use Change::{Delete, Insert, Update};
 use End::{Aborted, Committed, Open};
-use cell_model::{Cell, Row, TableDecl};
+use cell_model::{Row, TableDecl};
 use isolation_spec::{History, Place, WriteSet};
 use shared_store::{Built, Session, StartFault, Store};
 use std::alloc::Global;
@@ -106,25 +106,20 @@ fn keep<R: Abort + Wait>(
     Ok(())
 }
 
-/// A commit of one write in a table: of a row of the key alone, or of none.
-fn commit_of(
-    alloc: Global,
-    tables: &[TableDecl],
-    table: u32,
-    key: i64,
-    left: bool,
-) -> Result<WriteSet, Fail>
+/// The row where it is left, and none where it is gone.
+fn left_of(row: Row, left: bool) -> Option<Row>
+    ensures { IfSome result (λ kept. kept ≡ row) }
+{
+    if left { Some(row) } else { None }
+}
+
+/// A commit of one write in the second table: the row of a key is left, or it is gone.
+fn commit_of(alloc: Global, tables: &[TableDecl], key: i64, left: bool) -> Result<WriteSet, Fail>
     ensures { IfOk result (IsCommitOf tables.now) }
 {
-    let Some(decl) = tables.get(table as usize) else {
-        return Err(Fail::from("no table"));
-    };
-    let row = Row::from(vec![in alloc; Cell::Num(i128::from(key))]?);
-    if decl.schema.fits(&row).is_err() {
-        return Err(Fail::from("the row does not fit"));
-    }
-    let left = if left { Some(row) } else { None };
-    Ok(WriteSet::from(vec![in alloc; (Place { table, key }, left)]?))
+    let row = row_of(alloc, tables, 1, key)?;
+    let write = (Place { table: 1, key }, left_of(row, left));
+    Ok(WriteSet::from(vec![in alloc; write]?))
 }
 
 /// Four commits of two tables, which leave two rows in the second.
@@ -133,7 +128,7 @@ fn first_commits(alloc: Global, tables: &[TableDecl]) -> Result<History, Fail>
 {
     let mut commits = Vec::new(alloc);
     for (key, left) in [(1, true), (2, true), (1, false), (3, true)] {
-        commits.push(commit_of(alloc, tables, 1, key, left)?)?;
+        commits.push(commit_of(alloc, tables, key, left)?)?;
     }
     Ok(History::from(commits))
 }

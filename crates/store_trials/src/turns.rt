@@ -2,6 +2,7 @@
 ghost use Rattle.std.specs.Prelude.{◌≡◌, ◌≤◌, ◌^◌, [], IfOk, OnOk, length, true};
 ghost use Rattle.cell_model.specs.Schemas.{IsSchema};
 ghost use Rattle.event_spec.specs.Lawful.{HasBlock};
+ghost use Rattle.isolation_spec.specs.Contents.{key_of};
 ghost use Rattle.shared_store.specs.Building.{MayOpen};
 ghost use Rattle.shared_store.specs.Store.{HasRoomFor, IsSession, MakesAtMost, shape_in};
 ghost use Rattle.store_rounds.specs.Sessions.{IsFreeSession};
@@ -148,12 +149,13 @@ fn tables(alloc: Global) -> Result<Vec<TableDecl>, Fail>
     Ok(vec![in alloc; table]?)
 }
 
-/// The row of a key, which fits the table.
-fn row_of(alloc: Global, store: &Store, key: i64) -> Result<Row, Fail>
-    ensures { IfOk result (λ row. fits_table (shape_in store.now).tables 0 row ≡ true) }
+/// The row of a key, which fits the table of this number.
+pub(crate) fn row_of(alloc: Global, tables: &[TableDecl], table: u32, key: i64) -> Result<Row, Fail>
+    ensures fits { IfOk result (λ row. fits_table tables.now table row ≡ true) }
+    ensures key { IfOk result (λ row. key_of row ≡ key) }
 {
     let row = Row::from(vec![in alloc; Cell::Num(i128::from(key))]?);
-    let Some(table) = store.tables().first() else {
+    let Some(table) = tables.get(table as usize) else {
         return Err(Fail::from("no table"));
     };
     match table.schema.fits(&row) {
@@ -189,11 +191,11 @@ pub(crate) fn write<R: Wait>(
     }
     match change {
         Insert(key) => {
-            let row = row_of(alloc, store, key)?;
+            let row = row_of(alloc, store.tables(), 0, key)?;
             accepted(store.insert(rt, session, 0, row))
         }
         Update(key) => {
-            let row = row_of(alloc, store, key)?;
+            let row = row_of(alloc, store.tables(), 0, key)?;
             accepted(store.update(rt, session, 0, row))
         }
         Delete(key) => accepted(store.delete(rt, session, 0, key)),
