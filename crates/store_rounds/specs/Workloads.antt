@@ -32,17 +32,17 @@ pub record Went
   pub sent : Appends exported exported_now bytes
   pub says : SaysAllSent script text bytes
 
--- What is told of a run: below `Goes asked ran text printed` says that rounds of these lines ran, that
--- these are the rounds as they ran, that they had this text, and that so many of them were printed,
--- were it in part.
+-- What is told of a run: below `Goes asked ran printed text` says that rounds of these lines ran, that
+-- these are the rounds as they ran, that so many of them were printed, were it in part, and that all
+-- had this text.
 abbrev pub OfRounds : Type 1
-OfRounds = List (List Line) → List RoundRun → List ℕ → ℕ → Type 0
+OfRounds = List (List Line) → List RoundRun → ℕ → List ℕ → Type 0
 
 -- All rounds ran, and their text was printed.
 pub record GoesWhole (Goes : OfRounds) (script : Script) (before now : Option (List ℕ)) : Type 0 where
   pub ran : List RoundRun
   pub text : List ℕ
-  pub went : Goes script.rounds ran text (length ran)
+  pub went : Goes script.rounds ran (length ran) text
   pub printed : Appends before now text
 
 -- The output failed at the text of a round, which ran last: that of the rounds before it was printed
@@ -59,7 +59,7 @@ pub record GoesCutOff
   pub shown : List ℕ
   pub cut : List ℕ
   pub of_round : cut ≡ round_text script.tables (length whole + 1) last.shares
-  pub went : Goes (whole ++ round ∷ []) (ran ++ last ∷ []) (shown ++ cut) (length ran + 1)
+  pub went : Goes (whole ++ round ∷ []) (ran ++ last ∷ []) (length ran + 1) (shown ++ cut)
   pub between : Option (List ℕ)
   pub printed : Appends before between shown
   pub cut_off : AppendsFront between now cut
@@ -81,7 +81,7 @@ pub record GoesTo
   pub hidden : List ℕ
   pub of_round : hidden ≡ round_text script.tables (length whole + 1) last.shares
   pub explained_shown : Explained (with_rounds whole script) shown
-  pub went : Goes (whole ++ lines ∷ []) (ran ++ last ∷ []) (shown ++ hidden) (length ran)
+  pub went : Goes (whole ++ lines ∷ []) (ran ++ last ∷ []) (length ran) (shown ++ hidden)
   pub printed : Appends before now shown
 
 -- A session's lines end at an export.
@@ -119,7 +119,7 @@ pub record GoesBefore
   pub rounds : script.rounds ≡ whole ++ round ∷ rest
   pub ran : List RoundRun
   pub text : List ℕ
-  pub went : Goes whole ran text (length ran)
+  pub went : Goes whole ran (length ran) text
   pub printed : Appends before now text
 
 -- It stopped for want of memory.
@@ -159,7 +159,7 @@ GoesPart Goes script fault.GroupTooLong before now = GoesTooLong Goes script bef
 -- the run's log this can be told.
 pub record WentBy
     (script : Script) (exported exported_now : Option (List ℕ)) (Logs : OfLogged)
-    (asked : List (List Line)) (ran : List RoundRun) (text : List ℕ) (printed : ℕ)
+    (asked : List (List Line)) (ran : List RoundRun) (printed : ℕ) (text : List ℕ)
     : Type 0 where
   pub went : Went (with_rounds asked script) ran text exported exported_now
   pub logs : Logs ran printed

@@ -1,10 +1,9 @@
 //! A workload whose store is built, so that it may be run.
 ghost use Rattle.std.specs.Prelude.{◌≡◌, ◌<◌, ◌^◌, ℕ, IfErr, IfOk, IfSome, None, OnOk, false, is_some};
 ghost use Rattle.std.specs.Prelude.{length, true};
-ghost use Rattle.core_parts.specs.FirstRows.{IsFirstFull};
-ghost use Rattle.core_parts.specs.declared.start_fault.StartFault.TheVariants as start;
 ghost use Rattle.isolation_spec.specs.Commits.{AreCommitsOf};
 ghost use Rattle.run_spec.specs.Ran.{shape_of};
+ghost use Rattle.shared_store.specs.Building.{IsFirstFull};
 ghost use Rattle.workload_spec.specs.ScriptText.{script_text};
 ghost use Rattle.workload_spec.specs.Valid.{IsWritten};
 ghost use Rattle.store_rounds.specs.Logging.{LogsRounds};
@@ -79,7 +78,7 @@ impl PreparedRun {
         requires written { IsWritten script }
         requires commits { AreCommitsOf script.tables first }
         ensures prepared { IfOk result (IsPrepared (begun_with first script) true) }
-        ensures full { IfErr result (λ fault. (table : ℕ) → fault ≡ start.Full table
+        ensures full { IfErr result (λ fault. (table : ℕ) → fault ≡ StartFault.Full table
             → IsFirstFull (shape_of (begun_with first script)) table) }
     {
         let Script {
@@ -137,28 +136,28 @@ impl PreparedRun {
         rt: &R,
         alloc: Global,
         gate: &G,
-        log: &mut Option<Log>,
+        log: Option<Log>,
         disk: &mut D,
         out: &mut O,
         outlet: &mut X,
     ) -> Result<(), RunFault>
-        requires prepared { IsPrepared self.script.value (is_some log.old) self }
+        requires prepared { IsPrepared self.script.value (is_some log) self }
         requires short { length (script_text self.script.value) < 2 ^ 32 }
-        requires works { IfSome log.old (λ log. log.payloads.failed ≡ false) }
+        requires works { IfSome log (λ log. log.payloads.failed ≡ false) }
         ensures whole { OnOk result (GoesWhole
             (WentBy self.script.value (X.written outlet.old) (X.written outlet.new)
-            (LogsRounds D.told D.moment D.left_since D.may_leave disk.old disk.new log.old
+            (LogsRounds D.told D.moment D.left_since D.may_leave disk.old disk.new log
             self.script.value))
             self.script.value (O.written out.old) (O.written out.new)) }
         ensures part { IfErr result (λ fault. GoesPart
             (WentBy self.script.value (X.written outlet.old) (X.written outlet.new)
-            (LogsRounds D.told D.moment D.left_since D.may_leave disk.old disk.new log.old
+            (LogsRounds D.told D.moment D.left_since D.may_leave disk.old disk.new log
             self.script.value))
             self.script.value fault (O.written out.old) (O.written out.new)) }
         ensures out_faults { CountsOutFault (O.faults out.old) (O.faults out.new) result }
         ensures export_faults { CountsExportFault (X.faults outlet.old) (X.faults outlet.new) result }
         ensures log_faults { CountsLogFault (D.faults disk.old) (D.faults disk.new) result }
-        ensures unlogged { log.old ≡ None → IsUnlogged disk.old disk.new result }
+        ensures unlogged { log ≡ None → IsUnlogged disk.old disk.new result }
         ensures started { X.started outlet.new ≡ X.started outlet.old }
         ensures disk_started { D.started disk.new ≡ D.started disk.old }
     {
@@ -169,9 +168,10 @@ impl PreparedRun {
             rounds,
             script,
         } = self;
+        let mut log = log;
         let row = row.as_mut_slice();
         run_rounds(
-            rt, alloc, gate, &store, crew, row, &script, rounds, log, disk, out, outlet,
+            rt, alloc, gate, &store, crew, row, &script, rounds, &mut log, disk, out, outlet,
         )
     }
 }
