@@ -30,6 +30,10 @@ use Rattle.store_rounds.specs.declared.fault.RunFault.{RunFault}
 use Rattle.store_rounds.specs.declared.fault.RunFault.TheVariants as fault
 use Rattle.store_rounds.proofs.Grouping.{RowKeeps, made_by, row_begins}
 
+-- a fault, of whatever was to be made
+abbrev pub failed_as : (T : Type 0) → RunFault → Result T RunFault
+failed_as T failed = Err failed
+
 -- ---- a round's commits
 
 -- The group is what a round behind these adds to the history.
@@ -134,11 +138,11 @@ module _
     -- before the first round
     stood_first : (script : Script) (disk : D) (log : Log) → StandsOf script.tables (told disk) (may_leave disk) script.begun log → Stood told moment left_since may_leave script disk disk [] log
     stood_first script disk log stands =
-        let stood : StandsOf script.tables (told disk) (may_leave disk) (history_at script [] (length [])) log =
+        let stood : StandsOf script.tables (told disk) (may_leave disk) (history_at script [] 0) log =
         subst (λ (h : History). StandsOf script.tables (told disk) (may_leave disk) h log) (sym (append-nil script.begun)) stands in
         record {
           stands = stood;
-          any_moment = nothing_done script.tables disk (history_at script [] (length [])) log (LeavesRounds script [] 0) stood
+          any_moment = nothing_done script.tables disk (history_at script [] 0) log (LeavesRounds script [] 0) stood
               (λ c gives. some_left script [] 0 c (all_left script [] c gives));
         }
 
@@ -241,13 +245,13 @@ module _
 
       -- A round that ended well stands in the log.
       pub log_goes_on : {T : Type 0} (its : Option Log) (done : T) → AddsWhatIsTaken → KeepsNoneTaken → LogStands told moment left_since may_leave script store old first disk its log rounds
-          → EndsRound told moment left_since may_leave script.sessions mid new log later disk now (Ok {E = RunFault} done)
+          → EndsRound told moment left_since may_leave script.sessions mid new log later disk now (Ok done)
           → LogStands told moment left_since may_leave script store new first now its later (rounds ++ round ∷ [])
       log_goes_on {T} None done adds keeps alone ends =
-          let left = subst (λ (l : Option Log). EndsRound told moment left_since may_leave script.sessions mid new l later disk now (Ok {E = RunFault} done)) alone.none ends in
+          let left = subst (λ (l : Option Log). EndsRound told moment left_since may_leave script.sessions mid new l later disk now (Ok done)) alone.none ends in
           record { same = left.disk ∙ alone.same; none = left.none }
       log_goes_on {T} (Some its) done adds keeps goes ends =
-          let added = subst (λ (l : Option Log). EndsRound told moment left_since may_leave script.sessions mid new l later disk now (Ok {E = RunFault} done)) goes.is ends in
+          let added = subst (λ (l : Option Log). EndsRound told moment left_since may_leave script.sessions mid new l later disk now (Ok done)) goes.is ends in
           record {
             now = added.its;
             is = added.is;
@@ -257,18 +261,18 @@ module _
           }
 
       -- Of one that did not, the disk has the rounds before it.
-      pub log_stops : {T : Type 0} (its : Option Log) (failed : RunFault) → AddsWhatIsTaken → LogStands told moment left_since may_leave script store old first disk its log rounds
-          → EndsRound {T = T} told moment left_since may_leave script.sessions mid new log later disk now (Err failed)
+      pub log_stops : (T : Type 0) (its : Option Log) (failed : RunFault) → AddsWhatIsTaken → LogStands told moment left_since may_leave script store old first disk its log rounds
+          → EndsRound told moment left_since may_leave script.sessions mid new log later disk now (failed_as T failed)
           → LogsRounds told moment left_since may_leave first now its script (rounds ++ round ∷ []) (length rounds)
-      log_stops None failed adds alone ends = tt
-      log_stops {T} (Some its) failed adds goes ends =
-          by failed (subst (λ (l : Option Log). EndsRound {T = T} told moment left_since may_leave script.sessions mid new l later disk now (Err failed)) goes.is ends)
+      log_stops T None failed adds alone ends = tt
+      log_stops T (Some its) failed adds goes ends =
+          by failed (subst (λ (l : Option Log). EndsRound told moment left_since may_leave script.sessions mid new l later disk now (failed_as T failed)) goes.is ends)
         where
           same_disk : now ≡ disk → LogsRounds told moment left_since may_leave first now (Some its) script (rounds ++ round ∷ []) (length rounds)
           same_disk same = subst (λ (d : D). LogsRounds told moment left_since may_leave first d (Some its) script (rounds ++ round ∷ []) (length rounds)) (sym same)
               (logs_short script store old first disk (Some its) log rounds round goes)
 
-          by : (failed : RunFault) → EndsRound {T = T} told moment left_since may_leave script.sessions mid new (Some goes.now) later disk now (Err failed)
+          by : (failed : RunFault) → EndsRound told moment left_since may_leave script.sessions mid new (Some goes.now) later disk now (failed_as T failed)
               → LogsRounds told moment left_since may_leave first now (Some its) script (rounds ++ round ∷ []) (length rounds)
           by fault.Out ends = absurd ends
           by fault.Export ends = absurd ends
@@ -278,47 +282,47 @@ module _
           by fault.GroupTooLong ends = same_disk ends.same
 
       -- One whose commits do not fit adds them to the history.
-      pub round_too_long : {T : Type 0} (its : Option Log) → AddsWhatIsTaken → LogStands told moment left_since may_leave script store old first disk its log rounds
-          → EndsRound {T = T} told moment left_since may_leave script.sessions mid new log later disk now (Err fault.GroupTooLong)
+      pub round_too_long : (T : Type 0) (its : Option Log) → AddsWhatIsTaken → LogStands told moment left_since may_leave script store old first disk its log rounds
+          → EndsRound told moment left_since may_leave script.sessions mid new log later disk now (failed_as T fault.GroupTooLong)
           → IsTooLong script rounds round
-      round_too_long {T} None adds alone ends =
-          absurd (subst (λ (l : Option Log). EndsRound {T = T} told moment left_since may_leave script.sessions mid new l later disk now (Err fault.GroupTooLong)) alone.none ends)
-      round_too_long {T} (Some its) adds goes ends =
-          let took = subst (λ (l : Option Log). EndsRound {T = T} told moment left_since may_leave script.sessions mid new l later disk now (Err fault.GroupTooLong)) goes.is ends in
+      round_too_long T None adds alone ends =
+          absurd (subst (λ (l : Option Log). EndsRound told moment left_since may_leave script.sessions mid new l later disk now (failed_as T fault.GroupTooLong)) alone.none ends)
+      round_too_long T (Some its) adds goes ends =
+          let took = subst (λ (l : Option Log). EndsRound told moment left_since may_leave script.sessions mid new l later disk now (failed_as T fault.GroupTooLong)) goes.is ends in
           too_long script rounds round took.group (adds goes.keeps took.group took.sets) took.long
 
       -- A round that ended does not tell of the output or the outlet.
-      pub ends_inside : {T : Type 0} (its : Option Log) → LogStands told moment left_since may_leave script store old first disk its log rounds
-          → (EndsRound {T = T} told moment left_since may_leave script.sessions mid new log later disk now (Err fault.Out) → ⊥)
-          × (EndsRound {T = T} told moment left_since may_leave script.sessions mid new log later disk now (Err fault.Export) → ⊥)
-      ends_inside {T} None alone =
-          let none : (failed : RunFault) → EndsRound {T = T} told moment left_since may_leave script.sessions mid new log later disk now (Err failed)
-          → EndsRound {T = T} told moment left_since may_leave script.sessions mid new None later disk now (Err failed) =
-          λ failed ends. subst (λ (l : Option Log). EndsRound {T = T} told moment left_since may_leave script.sessions mid new l later disk now (Err failed)) alone.none ends in
+      pub ends_inside : (T : Type 0) (its : Option Log) → LogStands told moment left_since may_leave script store old first disk its log rounds
+          → (EndsRound told moment left_since may_leave script.sessions mid new log later disk now (failed_as T fault.Out) → ⊥)
+          × (EndsRound told moment left_since may_leave script.sessions mid new log later disk now (failed_as T fault.Export) → ⊥)
+      ends_inside T None alone =
+          let none : (failed : RunFault) → EndsRound told moment left_since may_leave script.sessions mid new log later disk now (failed_as T failed)
+          → EndsRound told moment left_since may_leave script.sessions mid new None later disk now (failed_as T failed) =
+          λ failed ends. subst (λ (l : Option Log). EndsRound told moment left_since may_leave script.sessions mid new l later disk now (failed_as T failed)) alone.none ends in
           (λ ends. none fault.Out ends, λ ends. none fault.Export ends)
-      ends_inside {T} (Some its) goes =
-          let some : (failed : RunFault) → EndsRound {T = T} told moment left_since may_leave script.sessions mid new log later disk now (Err failed)
-          → EndsRound {T = T} told moment left_since may_leave script.sessions mid new (Some goes.now) later disk now (Err failed) =
-          λ failed ends. subst (λ (l : Option Log). EndsRound {T = T} told moment left_since may_leave script.sessions mid new l later disk now (Err failed)) goes.is ends in
+      ends_inside T (Some its) goes =
+          let some : (failed : RunFault) → EndsRound told moment left_since may_leave script.sessions mid new log later disk now (failed_as T failed)
+          → EndsRound told moment left_since may_leave script.sessions mid new (Some goes.now) later disk now (failed_as T failed) =
+          λ failed ends. subst (λ (l : Option Log). EndsRound told moment left_since may_leave script.sessions mid new l later disk now (failed_as T failed)) goes.is ends in
           (λ ends. some fault.Out ends, λ ends. some fault.Export ends)
 
       -- Without a log it tells of none, and the disk is as it was.
-      pub unlogged_ends : {T U : Type 0} (its : Option Log) (failed : RunFault) → its ≡ None → LogStands told moment left_since may_leave script store old first disk its log rounds
-          → EndsRound {T = T} told moment left_since may_leave script.sessions mid new log later disk now (Err failed)
-          → IsUnlogged {T = U} first now (Err failed)
-      unlogged_ends {T} {U} its failed none stands ends =
+      pub unlogged_ends : (T U : Type 0) (its : Option Log) (failed : RunFault) → its ≡ None → LogStands told moment left_since may_leave script store old first disk its log rounds
+          → EndsRound told moment left_since may_leave script.sessions mid new log later disk now (failed_as T failed)
+          → IsUnlogged first now (failed_as U failed)
+      unlogged_ends T U its failed none stands ends =
           let alone : LogAlone told moment left_since may_leave first disk log = subst (λ (l : Option Log). LogStands told moment left_since may_leave script store old first disk l log rounds) none stands in
-          by failed alone.same (subst (λ (l : Option Log). EndsRound {T = T} told moment left_since may_leave script.sessions mid new l later disk now (Err failed)) alone.none ends)
+          by failed alone.same (subst (λ (l : Option Log). EndsRound told moment left_since may_leave script.sessions mid new l later disk now (failed_as T failed)) alone.none ends)
         where
-          by : (failed : RunFault) → disk ≡ first → EndsRound {T = T} told moment left_since may_leave script.sessions mid new None later disk now (Err failed) → IsUnlogged {T = U} first now (Err failed)
+          by : (failed : RunFault) → disk ≡ first → EndsRound told moment left_since may_leave script.sessions mid new None later disk now (failed_as T failed) → IsUnlogged first now (failed_as U failed)
           by fault.Out same ends = absurd ends
           by fault.Export same ends = absurd ends
           by fault.Memory same ends = record { same = ends ∙ same; no_fault = λ e. memory_no_log e; fits = λ e. memory_fits e }
             where
-              memory_no_log : Err {T = U} fault.Memory ≡ Err fault.Log → ⊥
+              memory_no_log : failed_as U fault.Memory ≡ failed_as U fault.Log → ⊥
               memory_no_log e = cc
 
-              memory_fits : Err {T = U} fault.Memory ≡ Err fault.GroupTooLong → ⊥
+              memory_fits : failed_as U fault.Memory ≡ failed_as U fault.GroupTooLong → ⊥
               memory_fits e = cc
           by fault.Log same ends = absurd ends
           by fault.GroupTooLong same ends = absurd ends

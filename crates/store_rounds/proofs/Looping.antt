@@ -25,7 +25,7 @@ use Rattle.store_rounds.specs.Workloads.{GoesCutOff, GoesPart, GoesWhole, IsUnlo
 use Rattle.store_rounds.specs.declared.duty.Duty.{Duty}
 use Rattle.store_rounds.specs.declared.fault.RunFault.{RunFault}
 use Rattle.store_rounds.specs.declared.fault.RunFault.TheVariants as fault
-use Rattle.store_rounds.proofs.Logged.{AddsWhatIsTaken, KeepsNoneTaken, LogAlone, LogStands, ends_inside, log_begins, log_goes_on, log_stops, logs_all, logs_short, round_too_long, unlogged_ends}
+use Rattle.store_rounds.proofs.Logged.{AddsWhatIsTaken, KeepsNoneTaken, LogAlone, LogStands, ends_inside, failed_as, log_begins, log_goes_on, log_stops, logs_all, logs_short, round_too_long, unlogged_ends}
 use Rattle.store_rounds.proofs.Running.{RoundDone, Running, adds, keeps_none, round, running_begins, running_ends, running_goes_on, running_is_cut_off}
 use Rattle.store_rounds.proofs.Scripts.{may_open}
 use Rattle.store_rounds.proofs.Stopping.{running_stops, running_too_long, running_unshown}
@@ -67,7 +67,6 @@ module _
     pub looping_begins : (row : List Session) → IsRunnable script → shape_in store ≡ shape_of script → IsNewRow store (script.sessions + script.workers) row
         → All (StartsKeeping (is_some its)) row → IfSome its (λ log. log.payloads.failed ≡ false)
         → Looping told moment left_since may_leave script store row [] before before exported exported 0 first first its its
-    unfolding running_begins
     looping_begins row valid shape new starts works = record {
       running = running_begins script store row before exported valid shape new;
       logs = log_begins told moment left_since may_leave counts_now only_now script store (script.sessions + script.workers) row first its (omega arith) new starts works;
@@ -124,7 +123,7 @@ module _
         none_taken_kept = keeps_none script store old mid asked before now exported exported_now exported_later number looping.running lines its_done row
 
         -- where the round ended well, the log has it too
-        logs_further : {T : Type 0} (done : T) → EndsRound told moment left_since may_leave script.sessions mid row log later disk after (Ok {E = RunFault} done)
+        logs_further : {T : Type 0} (done : T) → EndsRound told moment left_since may_leave script.sessions mid row log later disk after (Ok done)
             → LogStands told moment left_since may_leave script store row first after its later (looping.running.rounds ++ this ∷ [])
         logs_further done ends =
             log_goes_on told moment left_since may_leave counts_now only_now script store old mid row first disk after log later looping.running.rounds this (few_tables script valid)
@@ -132,7 +131,7 @@ module _
 
         -- a round that ended well, of which the lines were printed
         pub looping_goes_on : {T : Type 0} (done : T) (text : List ℕ) (printed : Option (List ℕ)) → IsWholeText duties text → Appends now printed text
-            → EndsRound told moment left_since may_leave script.sessions mid row log later disk after (Ok {E = RunFault} done)
+            → EndsRound told moment left_since may_leave script.sessions mid row log later disk after (Ok done)
             → Looping told moment left_since may_leave script store row (asked ++ lines ∷ []) before printed exported exported_later (number + 1) first after its later
         looping_goes_on done text printed whole grown ends = record {
           running = running_goes_on script store old mid row asked before now exported exported_now exported_later number lines duties text looping.running did whole may printed grown;
@@ -141,7 +140,7 @@ module _
 
         -- or of which a front was printed
         pub looping_cut : {T : Type 0} (done : T) (text : List ℕ) (printed : Option (List ℕ)) → IsWholeText duties text → AppendsFront now printed text
-            → EndsRound told moment left_since may_leave script.sessions mid row log later disk after (Ok {E = RunFault} done)
+            → EndsRound told moment left_since may_leave script.sessions mid row log later disk after (Ok done)
             → GoesCutOff (RunsIn script store row exported exported_later (LogsRounds told moment left_since may_leave first after its script)) script before printed
         looping_cut done text printed whole front ends =
             running_is_cut_off script store old mid row asked before now exported exported_now exported_later number lines duties text looping.running did whole may
@@ -152,18 +151,18 @@ module _
             front
 
         -- a round that did not end well
-        pub looping_unended : {T : Type 0} (failed : RunFault) → EndsRound {T = T} told moment left_since may_leave script.sessions mid row log later disk after (Err failed)
+        pub looping_unended : (T : Type 0) (failed : RunFault) → EndsRound told moment left_since may_leave script.sessions mid row log later disk after (failed_as T failed)
             → GoesPart (RunsIn script store row exported exported_later (LogsRounds told moment left_since may_leave first after its script)) script failed before now
-        looping_unended {T} failed ends = by failed ends (log_stops told moment left_since may_leave counts_now only_now script store old mid row first disk after log later
-            looping.running.rounds this (few_tables script valid) its failed adds_taken looping.logs ends)
+        looping_unended T failed ends = by failed ends (log_stops told moment left_since may_leave counts_now only_now script store old mid row first disk after log later
+            looping.running.rounds this (few_tables script valid) T its failed adds_taken looping.logs ends)
           where
-            by : (failed : RunFault) → EndsRound {T = T} told moment left_since may_leave script.sessions mid row log later disk after (Err failed)
+            by : (failed : RunFault) → EndsRound told moment left_since may_leave script.sessions mid row log later disk after (failed_as T failed)
                 → LogsRounds told moment left_since may_leave first after its script (looping.running.rounds ++ this ∷ []) (length looping.running.rounds)
                 → GoesPart (RunsIn script store row exported exported_later (LogsRounds told moment left_since may_leave first after its script)) script failed before now
             by fault.Out ends logs = absurd ((ends_inside told moment left_since may_leave counts_now only_now script store old mid row first disk after log later
-                looping.running.rounds this (few_tables script valid) its looping.logs).0 ends)
+                looping.running.rounds this (few_tables script valid) T its looping.logs).0 ends)
             by fault.Export ends logs = absurd ((ends_inside told moment left_since may_leave counts_now only_now script store old mid row first disk after log later
-                looping.running.rounds this (few_tables script valid) its looping.logs).1 ends)
+                looping.running.rounds this (few_tables script valid) T its looping.logs).1 ends)
             by fault.Memory ends logs = inr (running_unshown script store old mid asked rest before now exported exported_now exported_later number lines valid split looping.running
                 its_done row may (LogsRounds told moment left_since may_leave first after its script) logs)
             by fault.Log ends logs = running_unshown script store old mid asked rest before now exported exported_now exported_later number lines valid split looping.running
@@ -171,10 +170,10 @@ module _
             by fault.GroupTooLong ends logs = running_too_long script store old mid asked rest before now exported exported_now exported_later number lines valid split looping.running
                 its_done row may (LogsRounds told moment left_since may_leave first after its script) logs
                 (round_too_long told moment left_since may_leave counts_now only_now script store old mid row first disk after log later
-                looping.running.rounds this (few_tables script valid) its adds_taken looping.logs ends)
+                looping.running.rounds this (few_tables script valid) T its adds_taken looping.logs ends)
 
         -- without a log
-        pub looping_unlogged : {T U : Type 0} (failed : RunFault) → its ≡ None → EndsRound {T = T} told moment left_since may_leave script.sessions mid row log later disk after (Err failed)
-            → IsUnlogged {T = U} first after (Err failed)
-        looping_unlogged failed none ends = unlogged_ends told moment left_since may_leave counts_now only_now script store old mid row first disk after log later
-            looping.running.rounds this (few_tables script valid) its failed none looping.logs ends
+        pub looping_unlogged : (T U : Type 0) (failed : RunFault) → its ≡ None → EndsRound told moment left_since may_leave script.sessions mid row log later disk after (failed_as T failed)
+            → IsUnlogged first after (failed_as U failed)
+        looping_unlogged T U failed none ends = unlogged_ends told moment left_since may_leave counts_now only_now script store old mid row first disk after log later
+            looping.running.rounds this (few_tables script valid) T U its failed none looping.logs ends

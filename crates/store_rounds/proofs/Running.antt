@@ -101,12 +101,12 @@ pub record Running (script : Script) (store : StoreView) (row : List Session) (a
   pub asked_count : number ≡ length asked
 
 -- At each place of a new row stands a new session, numbered from one on.
-new_at : (store : StoreView) (count : ℕ) (row : List Session) (k : ℕ) (d : Session) → IsNewRow store count row → k < length row
+pub new_at : (store : StoreView) (count : ℕ) (row : List Session) (k : ℕ) (d : Session) → IsNewRow store count row → k < length row
     → IsNewSession store (k + 1) (get_or row k d)
 new_at store count row k d new within = new.each k (get_or row k d) (grind (arith, elements))
 
 -- A new row stands behind no rounds, with an empty log.
-new_row_stands : (store : StoreView) (count : ℕ) (row : List Session) → IsNewRow store count row → Standing store [] row
+pub new_row_stands : (store : StoreView) (count : ℕ) (row : List Session) → IsNewRow store count row → Standing store [] row
 new_row_stands store count row new = record {
   sessions = λ k d within.
       let one = new_at store count row k d new within in
@@ -116,7 +116,7 @@ new_row_stands store count row new = record {
 }
 
 -- before the first round, a new row stands behind no rounds, and nothing was printed or sent
-pub running_begins : (script : Script) (store : StoreView) (row : List Session) (before exported : Option (List ℕ))
+abbrev pub running_begins : (script : Script) (store : StoreView) (row : List Session) (before exported : Option (List ℕ))
     → IsRunnable script → shape_in store ≡ shape_of script → IsNewRow store (script.sessions + script.workers) row
     → Running script store row [] before before exported exported 0
 running_begins script store row before exported valid shape new = record {
@@ -231,7 +231,7 @@ module _ (script : Script) (store : StoreView) (old new : List Session) (asked :
       (stand_behind script store running.finished old new running.is running.stands done.calls done.ran)
 
   -- the text of the round's lines, told of the script's tables
-  told_further : (text : List ℕ) → text ≡ round_text (shape_in store).tables (number + 1) shares
+  pub told_further : (text : List ℕ) → text ≡ round_text (shape_in store).tables (number + 1) shares
       → rounds_text script.tables 1 running.rounds ++ text ≡ rounds_text script.tables 1 both
   told_further text is =
       ap (λ (more : List ℕ). rounds_text script.tables 1 running.rounds ++ more)
@@ -252,7 +252,7 @@ module _ (script : Script) (store : StoreView) (old new : List Session) (asked :
       (subst (λ (shape : Shape). SentBy shape.tables (crew_calls (crew_of script) done.calls) exported_now exported_later) running.is.shape done.sent))
 
   -- With this round too, each of the row made few enough events.
-  few_further : (k : ℕ) (d : Session) → k < length new → events_made (get_or new k d) ≤ most_so_far (asked ++ lines ∷ [])
+  pub few_further : (k : ℕ) (d : Session) → k < length new → events_made (get_or new k d) ≤ most_so_far (asked ++ lines ∷ [])
   few_further k d within = go (place script.sessions script.workers k (omega (arith, within, done.ran.size, running.is.size)))
     where
       go : Place script.sessions script.workers k → events_made (get_or new k d) ≤ most_so_far (asked ++ lines ∷ [])
@@ -335,7 +335,7 @@ module _ (script : Script) (store : StoreView) (old new row : List Session) (ask
   done = record { calls = did.calls; ran = did.ran; asked = did.asked; turned = did.turned; sent = did.sent }
 
   -- the text of its lines
-  its_text : text ≡ round_text (shape_in store).tables (number + 1) (crew_shares (crew_of script) did.calls)
+  pub its_text : text ≡ round_text (shape_in store).tables (number + 1) (crew_shares (crew_of script) did.calls)
   its_text = whole.text_is ∙ did.text_is whole.none_lost
 
   -- once the round's text was printed, the run goes on one round further

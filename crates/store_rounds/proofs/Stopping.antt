@@ -335,6 +335,7 @@ module _ (script : Script) (store : StoreView) (old new : List Session) (asked r
   pub running_unshown : (all_done : RoundDone script store old new lines exported_now exported_later) (row : List Session) (may : MayHaveHandedOver new row) (Logs : OfLogged)
       → Logs (both script store old new asked before now exported exported_now exported_later number running lines all_done) (length running.rounds)
       → GoesUnshown (RunsIn script store row exported exported_later Logs) script before now
+  unfolding all_goes goes_to
   running_unshown all_done row may Logs logs = record { lines = lines; to = all_goes all_done row may Logs logs; whole = refl }
 
   -- So does one whose commits are too long for a record of the log.
