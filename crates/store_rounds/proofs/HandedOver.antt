@@ -60,6 +60,10 @@ none_taken row = record { size = refl; each = λ k d within. ((get_or row k d).k
 
 -- ---- rows from which commits were taken
 
+-- Who handed its commits over may have.
+pub handed : (s new : Session) → new ≡ handed_over s → MayHandOver s new
+handed s new is = (option_map without_commits s.kept, is)
+
 -- The commits of the first of a row may have been taken, and then those of the others.
 pub taken_on : (one now : Session) (others later : List Session) → MayHandOver one now → MayHaveHandedOver others later → MayHaveHandedOver (one ∷ others) (now ∷ later)
 taken_on one now others later first rest = record {

@@ -26,6 +26,7 @@ mod Went
 mod Running
 mod Stopping
 mod Nothing
+mod AddedGroups
 mod Looping
 mod Going
 mod Counting
