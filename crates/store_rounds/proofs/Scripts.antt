@@ -6,7 +6,7 @@ use Rattle.std.proofs.lemmas.Bool.{and_parts, leb-true}
 use Rattle.std.proofs.lemmas.List.Elements.{All-cons, All-nil}
 use Rattle.cell_model.specs.declared.table.TableDecl.{TableDecl}
 use Rattle.cell_model.specs.Schemas.{IsSchema, begins_with_key, first_twins, most_columns, most_slots_of, row_bits}
-use Rattle.engine_core.specs.Core.{MayOpen}
+use Rattle.shared_store.specs.Building.{MayOpen}
 use Rattle.event_spec.specs.Parts.{Shape}
 use Rattle.event_spec.specs.Sound.{IsShape}
 use Rattle.isolation_spec.specs.Contents.{History}

@@ -1,4 +1,5 @@
-use Rattle.std.proofs.Common.{◌<◌, ◌^◌, List, length, sym, subst, arith}
+use Rattle.std.proofs.Common.{ℕ, ◌<◌, ◌^◌, List, length, sym, subst, arith}
+use Rattle.std.specs.Global.{Vec as GlobalVec}
 use Rattle.std.proofs.lemmas.Bool.Decides.{nat_tests}
 use Rattle.isolation_spec.specs.Contents.{History}
 use Rattle.log_spec.specs.LogText.{payload_text}
@@ -14,9 +15,9 @@ returns-in_default-clause-row g c = none_taken c.args.row.now
 pub returns-clause-log : goal.returns-clause-log
 returns-clause-log g c =
     let short : length (payload_text c.as_slice.result.now) < 2 ^ 32 = grind (arith, nat_tests, c.fits.ensures, c.if-not-fits.false) in
-    not_added g.D.Disk.told g.D.Disk.moment g.D.Disk.left_since g.D.Disk.may_leave _ _ c.args.sessions c.args.row.now c.take_group.new.row c.args.log.now
+    not_added g.D.Disk.told g.D.Disk.moment g.D.Disk.left_since g.D.Disk.may_leave (GlobalVec ℕ) (Unit {0}) c.args.sessions c.args.row.now c.take_group.new.row c.args.log.now
     c.in-Some.log c.add_group.new.log _ c.args.disk.now c.add_group.new.disk c.in-Ok.group.items c.in-Err-add_group.fault
     c.in-Some.is c.in-Ok.ensures.group.sets
     (subst (λ (group : History). length (payload_text group) < 2 ^ 32) c.as_slice.ensures.value short)
     (subst (λ (group : History). AddsGroup g.D.Disk.told g.D.Disk.moment g.D.Disk.left_since g.D.Disk.may_leave group c.in-Some.log c.add_group.new.log
-    c.args.disk.now c.add_group.new.disk (failed_as _ c.in-Err-add_group.fault)) c.as_slice-2.ensures.value c.in-Err-add_group.ensures.adds)
+    c.args.disk.now c.add_group.new.disk (failed_as (Unit {0}) c.in-Err-add_group.fault)) c.as_slice-2.ensures.value c.in-Err-add_group.ensures.adds)
