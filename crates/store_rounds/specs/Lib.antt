@@ -10,6 +10,10 @@ pub mod Row
 pub mod Agendas
 pub mod Duties
 pub mod Rounds
+pub mod Logging
+pub mod Grouped
+pub mod Adding
+pub mod Prepared
 pub mod Workloads
 pub mod Runs
 pub mod Stations
