@@ -1,6 +1,6 @@
 //! A log of commits.
 ghost use Rattle.std.specs.Prelude.{◌≡◌, ◌≢◌, ℕ, ◌^◌, ◌<◌, ◌++◌, [], List, Some, Err, IfOk};
-ghost use Rattle.std.specs.Prelude.{IsErrOf, IsSome, OnErr, OnOk, length, true};
+ghost use Rattle.std.specs.Prelude.{IsErrOf, IsSome, OnErr, OnOk, false, length, true};
 ghost use Rattle.std.specs.Option.{ForSome};
 ghost use Rattle.cell_model.specs.declared.table.TableDecl.{TableDecl};
 ghost use Rattle.disk_ports.specs.Crashes.{LeavesOnly};
@@ -41,6 +41,7 @@ impl Log {
     pub fn make<D: Disk>(disk: &mut D) -> Result<Log, LogFault>
         ensures ok { IfOk result (λ log. D.told disk.old ≡ Some [] → (tables : List TableDecl)
             → StandsOf tables (D.told disk.new) (D.may_leave disk.new) [] log) }
+        ensures works { IfOk result (λ log. log.payloads.failed ≡ false) }
         ensures only { OnErr result (result ≡ Err LogFault.Disk) }
         ensures started { D.started disk.new ≡ D.started disk.old }
         ensures cause { CountsDisk (D.faults disk.old) (D.faults disk.new) result }
@@ -64,6 +65,7 @@ impl Log {
         ensures ok { IfOk result (λ opened. IsSome (D.told disk.old)
             → StandsOf tables.now (D.told disk.new) (D.may_leave disk.new) opened.commits
             opened.log) }
+        ensures works { IfOk result (λ opened. opened.log.payloads.failed ≡ false) }
         ensures none { (place : ℕ) → IsErrOf result (LogFault.NotALog place)
             → ForSome (D.told disk.old) (λ bytes. IsNoLog tables.now bytes place) }
 

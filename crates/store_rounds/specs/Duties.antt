@@ -28,6 +28,8 @@ is_cut_end (Ok done) = false
 is_cut_end (Err fault.Out) = false
 is_cut_end (Err fault.Export) = true
 is_cut_end (Err fault.Memory) = false
+is_cut_end (Err fault.Log) = false
+is_cut_end (Err fault.GroupTooLong) = false
 
 abbrev pub is_whole : Duty → Bool
 is_whole duty = is_whole_end duty.ended

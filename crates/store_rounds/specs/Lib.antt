@@ -10,6 +10,8 @@ pub mod Row
 pub mod Agendas
 pub mod Duties
 pub mod Rounds
+pub mod Logging
+pub mod Prepared
 pub mod Workloads
 pub mod Runs
 pub mod Stations

@@ -8,6 +8,7 @@ use Rattle.run_laws.specs.Rounds.Fronts.{with_rounds}
 use Rattle.run_laws.specs.Rounds.Working.{StandsBehind}
 use Rattle.shared_store.specs.Store.{StoreView, seen, shape_in}
 use Rattle.shared_store.specs.declared.session.Session.{Session}
+use Rattle.store_rounds.specs.Logging.{OfLogged}
 use Rattle.store_rounds.specs.Row.{AreSessions}
 use Rattle.store_rounds.specs.Rounds.{AreNumbered}
 use Rattle.store_rounds.specs.Workloads.{Went}
@@ -27,11 +28,12 @@ pub record IsRowOf (script : Script) (store : StoreView) (row : List Session) : 
 
 -- Rounds of these lines ran on the store, as these rounds, and ended with the log in which all of
 -- the row met last. They stand behind the rounds: the log of each goes on from this one, and has no
--- more events of its own.
+-- more events of its own. Of the run's log of commits this can be told.
 pub record RunsIn
     (script : Script) (store : StoreView) (row : List Session)
-    (exported exported_now : Option (List ℕ)) (asked : List (List Line)) (ran : List RoundRun)
-    (text : List ℕ)
+    (exported exported_now : Option (List ℕ)) (Logs : OfLogged) (asked : List (List Line))
+    (ran : List RoundRun) (printed : ℕ) (text : List ℕ)
     : Type 0 where
   pub went : Went (with_rounds asked script) ran text exported exported_now
   pub stands : Standing store went.log row
+  pub logs : Logs ran printed

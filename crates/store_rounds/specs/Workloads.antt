@@ -12,6 +12,7 @@ use Rattle.run_spec.specs.Occurrences.{Logged}
 use Rattle.run_spec.specs.Ran.{Ran, RoundRun, Share}
 use Rattle.run_laws.specs.Rounds.Fronts.{AreFirstLines, lines_of, with_rounds}
 use Rattle.run_laws.specs.Rounds.Lines.{round_text}
+use Rattle.store_rounds.specs.Logging.{IsTooLong, OfLogged}
 use Rattle.store_rounds.specs.Worked.{EndsAtExport}
 use Rattle.workload_spec.specs.declared.reply.Who.TheVariants.{Session as TheSession}
 use Rattle.store_rounds.specs.declared.fault.RunFault.{RunFault}
@@ -31,16 +32,17 @@ pub record Went
   pub sent : Appends exported exported_now bytes
   pub says : SaysAllSent script text bytes
 
--- What is told of a run: below `Goes asked ran text` says that rounds of these lines ran, that these
--- are the rounds as they ran, and that they had this text.
+-- What is told of a run: below `Goes asked ran printed text` says that rounds of these lines ran, that
+-- these are the rounds as they ran, that so many of them were printed, were it in part, and that all
+-- had this text.
 abbrev pub OfRounds : Type 1
-OfRounds = List (List Line) → List RoundRun → List ℕ → Type 0
+OfRounds = List (List Line) → List RoundRun → ℕ → List ℕ → Type 0
 
 -- All rounds ran, and their text was printed.
 pub record GoesWhole (Goes : OfRounds) (script : Script) (before now : Option (List ℕ)) : Type 0 where
   pub ran : List RoundRun
   pub text : List ℕ
-  pub went : Goes script.rounds ran text
+  pub went : Goes script.rounds ran (length ran) text
   pub printed : Appends before now text
 
 -- The output failed at the text of a round, which ran last: that of the rounds before it was printed
@@ -57,7 +59,7 @@ pub record GoesCutOff
   pub shown : List ℕ
   pub cut : List ℕ
   pub of_round : cut ≡ round_text script.tables (length whole + 1) last.shares
-  pub went : Goes (whole ++ round ∷ []) (ran ++ last ∷ []) (shown ++ cut)
+  pub went : Goes (whole ++ round ∷ []) (ran ++ last ∷ []) (length ran + 1) (shown ++ cut)
   pub between : Option (List ℕ)
   pub printed : Appends before between shown
   pub cut_off : AppendsFront between now cut
@@ -79,7 +81,7 @@ pub record GoesTo
   pub hidden : List ℕ
   pub of_round : hidden ≡ round_text script.tables (length whole + 1) last.shares
   pub explained_shown : Explained (with_rounds whole script) shown
-  pub went : Goes (whole ++ lines ∷ []) (ran ++ last ∷ []) (shown ++ hidden)
+  pub went : Goes (whole ++ lines ∷ []) (ran ++ last ∷ []) (length ran) (shown ++ hidden)
   pub printed : Appends before now shown
 
 -- A session's lines end at an export.
@@ -98,7 +100,7 @@ pub record ToldMemory (shares : List Share) (session : ℕ) : Type 0 where
   pub who : share.who ≡ TheSession session
   pub ends : EndsAtExport share.calls
 
--- It stopped behind a round that ran whole, whose text found no memory and was not printed.
+-- It stopped behind a round that ran whole, whose text was not printed.
 pub record GoesUnshown
     (Goes : OfRounds) (script : Script) (before now : Option (List ℕ))
     : Type 0 where
@@ -117,13 +119,20 @@ pub record GoesBefore
   pub rounds : script.rounds ≡ whole ++ round ∷ rest
   pub ran : List RoundRun
   pub text : List ℕ
-  pub went : Goes whole ran text
+  pub went : Goes whole ran (length ran) text
   pub printed : Appends before now text
 
 -- It stopped for want of memory.
 abbrev pub GoesStopped : OfRounds → Script → Option (List ℕ) → Option (List ℕ) → Type 0
 GoesStopped Goes script before now =
     GoesBefore Goes script before now ⊎ GoesUnshown Goes script before now
+
+-- It stopped behind a round whose commits are too long for a record of the log.
+pub record GoesTooLong
+    (Goes : OfRounds) (script : Script) (before now : Option (List ℕ))
+    : Type 0 where
+  pub unshown : GoesUnshown Goes script before now
+  pub long : IsTooLong script unshown.to.ran unshown.to.last
 
 -- It stopped behind a round in which the outlet failed at an export, which counts as answered
 -- `memory`: its session stopped there, its calls of the run's last round end with this export, and
@@ -143,11 +152,17 @@ abbrev pub GoesPart : OfRounds → Script → RunFault → Option (List ℕ) →
 GoesPart Goes script fault.Out before now = GoesCutOff Goes script before now
 GoesPart Goes script fault.Export before now = GoesToExport Goes script before now
 GoesPart Goes script fault.Memory before now = GoesStopped Goes script before now
+GoesPart Goes script fault.Log before now = GoesUnshown Goes script before now
+GoesPart Goes script fault.GroupTooLong before now = GoesTooLong Goes script before now
 
--- Rounds of these lines of the script went so, for an outlet that had and now has these bytes.
-abbrev pub WentBy : Script → Option (List ℕ) → Option (List ℕ) → OfRounds
-WentBy script exported exported_now asked ran text =
-    Went (with_rounds asked script) ran text exported exported_now
+-- Rounds of these lines of the script went so, for an outlet that had and now has these bytes, and of
+-- the run's log this can be told.
+pub record WentBy
+    (script : Script) (exported exported_now : Option (List ℕ)) (Logs : OfLogged)
+    (asked : List (List Line)) (ran : List RoundRun) (printed : ℕ) (text : List ℕ)
+    : Type 0 where
+  pub went : Went (with_rounds asked script) ran text exported exported_now
+  pub logs : Logs ran printed
 
 -- a count of the output's faults: it rises where the output failed
 abbrev pub CountsOutFault : {T : Type 0} → ℕ → ℕ → Result T RunFault → Type 0
@@ -155,6 +170,8 @@ CountsOutFault before now (Ok done) = now ≡ before
 CountsOutFault before now (Err fault.Out) = Rose before now
 CountsOutFault before now (Err fault.Export) = now ≡ before
 CountsOutFault before now (Err fault.Memory) = now ≡ before
+CountsOutFault before now (Err fault.Log) = now ≡ before
+CountsOutFault before now (Err fault.GroupTooLong) = now ≡ before
 
 -- a count of the outlet's faults: it rises where the outlet failed
 abbrev pub CountsExportFault : {T : Type 0} → ℕ → ℕ → Result T RunFault → Type 0
@@ -162,3 +179,22 @@ CountsExportFault before now (Ok done) = now ≡ before
 CountsExportFault before now (Err fault.Out) = now ≡ before
 CountsExportFault before now (Err fault.Export) = Rose before now
 CountsExportFault before now (Err fault.Memory) = now ≡ before
+CountsExportFault before now (Err fault.Log) = now ≡ before
+CountsExportFault before now (Err fault.GroupTooLong) = now ≡ before
+
+-- a count of the log's disk: it rises where the disk failed
+abbrev pub CountsLogFault : {T : Type 0} → ℕ → ℕ → Result T RunFault → Type 0
+CountsLogFault before now (Ok done) = now ≡ before
+CountsLogFault before now (Err fault.Out) = now ≡ before
+CountsLogFault before now (Err fault.Export) = now ≡ before
+CountsLogFault before now (Err fault.Memory) = now ≡ before
+CountsLogFault before now (Err fault.Log) = Rose before now
+CountsLogFault before now (Err fault.GroupTooLong) = now ≡ before
+
+-- A run without a log leaves the disk as it was, and tells of no fault of a log.
+pub record IsUnlogged
+    {D T : Type 0} (old new : D) (result : Result T RunFault)
+    : Type 0 where
+  pub same : new ≡ old
+  pub no_fault : result ≢ Err fault.Log
+  pub fits : result ≢ Err fault.GroupTooLong

@@ -116,7 +116,8 @@ impl Duty {
     {
         match self.ended {
             Err(RunFault::Export) => true,
-            Err(RunFault::Out | RunFault::Memory) | Ok(()) => false,
+            Err(RunFault::Out | RunFault::Memory | RunFault::Log | RunFault::GroupTooLong)
+            | Ok(()) => false,
         }
     }
 }

@@ -7,6 +7,10 @@ pub enum RunFault {
     Out,
     /// The outlet of the export took no more bytes.
     Export,
-    /// There was no memory for the store, or for the commands or the lines of a round.
+    /// There was no memory for the commands, the commits or the lines of a round.
     Memory,
+    /// The disk of the log failed.
+    Log,
+    /// The commits of a round are too long for one record of the log.
+    GroupTooLong,
 }
