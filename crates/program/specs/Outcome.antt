@@ -20,9 +20,8 @@ use Rattle.run_spec.specs.Occurrences.{Logged}
 use Rattle.run_spec.specs.Ran.{IsRunnable, Ran, RoundRun, shape_of}
 use Rattle.run_laws.specs.Recovery.Leaves.{BeginsWith, Survives}
 use Rattle.run_laws.specs.Rounds.Fronts.{with_rounds}
-use Rattle.shared_store.specs.Building.{IsFirstFull}
 use Rattle.store_rounds.specs.Logging.{OfLogged}
-use Rattle.store_rounds.specs.Prepared.{begun_with}
+use Rattle.store_rounds.specs.Prepared.{IsFirstFull, begun_with}
 use Rattle.store_rounds.specs.Workloads.{GoesCutOff, GoesStopped, GoesToExport, GoesTooLong}
 use Rattle.store_rounds.specs.Workloads.{GoesUnshown, GoesWhole}
 use Rattle.isolation_spec.specs.Commits.{AreCommitsOf}
@@ -80,11 +79,15 @@ pub record IsSilent (before now : Outside) : Type 0 where
   pub printed : now.printed ≡ before.printed
   pub outlet : LeavesOutlet before now
 
--- the names with which an outlet was started, after a run with this path: once, where the workload
--- has an export
+-- the names with which an outlet was started, behind a start with this path if there was one
+abbrev pub started_if : Bool → List ℕ → Option (List (List ℕ)) → Option (List (List ℕ))
+started_if starts path names =
+    if starts then option_map (λ before. before ++ path ∷ []) names else names
+
+-- the names with which it was started, after a run with this path: once, where the workload has an
+-- export
 abbrev pub started_by : List ℕ → Script → Option (List (List ℕ)) → Option (List (List ℕ))
-started_by path script names =
-    if has_export script then option_map (λ before. before ++ path ∷ []) names else names
+started_by path script names = started_if (has_export script) path names
 
 -- The outlet after the workload `ran`, a front of the workload: started once, with the path, where
 -- the workload has an export, and sent what the replies say. Without a path the export is dropped.
@@ -151,6 +154,10 @@ abbrev pub Begins : Option (List ℕ) → OfDisk → List TableDecl → History 
 Begins None disk tables first = first ≡ []
 Begins (Some path) disk tables first = IsStartedWith path disk
     × BeginsWith tables disk.file first
+
+-- the line that tells that a log leaves a table more rows than it takes
+abbrev pub log_too_large : List ℕ
+log_too_large = codes "log too large" ++ line_feed ∷ []
 
 -- What is told of a run's log: its rounds survive on the disk.
 abbrev pub LogKeeps : Option (List ℕ) → OfDisk → Script → OfLogged
@@ -250,108 +257,71 @@ pub record FailsExport
 -- A log is kept, and its disk failed behind a round that ran whole, whose text was not shown; that
 -- of the rounds before it was printed.
 pub record FailsAppend
-    (path log : Option (List ℕ)) (Logs : OfLogged) (script : Script) (before now : Outside)
+    (path : Option (List ℕ)) (keeps : Bool) (Logs : OfLogged) (script : Script)
+    (before now : Outside)
     : Type 0 where
-  pub kept : IsSome log
+  pub kept : keeps ≡ true
   pub failed : GoesUnshown (RanRounds path Logs script before now) script before.printed now.printed
 
--- A log is kept, and the commits of a round that ran whole are too long for a record: its text was
--- not shown; that of the rounds before it was printed.
+-- A log is kept, and the commits of a round that ran whole are too long for a record of it: the text
+-- of the round was not shown; that of the rounds before it was printed.
 pub record IsGroupTooLong
-    (path log : Option (List ℕ)) (Logs : OfLogged) (script : Script) (before now : Outside)
+    (path : Option (List ℕ)) (keeps : Bool) (Logs : OfLogged) (script : Script)
+    (before now : Outside)
     : Type 0 where
-  pub kept : IsSome log
+  pub kept : keeps ≡ true
   pub stopped : GoesTooLong (RanRounds path Logs script before now) script before.printed now.printed
 
--- How the run of a workload ends whose store was built, with this path for its export and this one
--- for its log, of which this is told.
-abbrev pub ScriptEnds : Option (List ℕ) → Option (List ℕ) → OfLogged → Script → Status → Outside
-    → Outside → Type 0
-ScriptEnds path log Logs script status.Done before now = IsRun path Logs script before now
-ScriptEnds path log Logs script status.Usage before now = ⊥
-ScriptEnds path log Logs script status.Refused before now = ⊥
-ScriptEnds path log Logs script status.ReadFault before now = ⊥
-ScriptEnds path log Logs script status.OutFault before now = IsCutOff path Logs script before now
-ScriptEnds path log Logs script status.ExportFault before now =
+-- How the rounds of a workload end, with this path for its export, and with a log, of which this is
+-- told, or without one.
+abbrev pub RoundsEnd : Option (List ℕ) → Bool → OfLogged → Script → Status → Outside → Outside
+    → Type 0
+RoundsEnd path keeps Logs script status.Done before now = IsRun path Logs script before now
+RoundsEnd path keeps Logs script status.Usage before now = ⊥
+RoundsEnd path keeps Logs script status.Refused before now = ⊥
+RoundsEnd path keeps Logs script status.ReadFault before now = ⊥
+RoundsEnd path keeps Logs script status.OutFault before now = IsCutOff path Logs script before now
+RoundsEnd path keeps Logs script status.ExportFault before now =
     FailsExport path Logs script before now
-ScriptEnds path log Logs script status.Memory before now = IsStopped path Logs script before now
-ScriptEnds path log Logs script status.NotAStream before now = ⊥
-ScriptEnds path log Logs script status.TooLong before now = ⊥
-ScriptEnds path log Logs script status.LogFault before now =
-    FailsAppend path log Logs script before now
-ScriptEnds path log Logs script status.NotALog before now = ⊥
-ScriptEnds path log Logs script status.LogFull before now = ⊥
-ScriptEnds path log Logs script status.GroupTooLong before now =
-    IsGroupTooLong path log Logs script before now
+RoundsEnd path keeps Logs script status.Memory before now = IsStopped path Logs script before now
+RoundsEnd path keeps Logs script status.NotAStream before now = ⊥
+RoundsEnd path keeps Logs script status.TooLong before now = ⊥
+RoundsEnd path keeps Logs script status.LogFault before now =
+    FailsAppend path keeps Logs script before now
+RoundsEnd path keeps Logs script status.NotALog before now = ⊥
+RoundsEnd path keeps Logs script status.LogFull before now = ⊥
+RoundsEnd path keeps Logs script status.GroupTooLong before now =
+    IsGroupTooLong path keeps Logs script before now
 
--- The input is a workload, whose run began with these commits, which leave no table more rows than
--- it takes, and ended so.
-pub record IsRunOf
-    (path log : Option (List ℕ)) (disk : OfDisk) (ended : Status) (before now : Outside)
+-- The store was built over the commits that the run begins with, which leave no table more rows than
+-- it takes, and the rounds ended so.
+pub record IsBuilt
+    (path log : Option (List ℕ)) (disk : OfDisk) (script : Script) (ended : Status)
+    (before now : Outside)
     : Type 0 where
-  pub script : Script
-  pub reads : Reads script before now
   pub first : History
   pub begins : Begins log disk script.tables first
   pub runnable : IsRunnable (begun_with first script)
-  pub ends : ScriptEnds path log (LogKeeps log disk (begun_with first script))
+  pub ends : RoundsEnd path (is_some log) (LogKeeps log disk (begun_with first script))
       (begun_with first script) ended before now
-
--- There was no memory before a log was made or opened: nothing ran, nothing was printed, the outlet
--- was not started, and the file is as it was.
-pub record IsUnopened (log : Option (List ℕ)) (disk : OfDisk) (before now : Outside) : Type 0 where
-  pub started : MayBeStartedFor log disk
-  pub only_read : disk.only_read
-  pub silent : IsSilent before now
 
 -- There was no memory for the store, behind the opening of its log if one is kept: no round ran,
 -- nothing was printed, and the outlet was not started.
-pub record IsUnbuilt (log : Option (List ℕ)) (disk : OfDisk) (before now : Outside) : Type 0 where
-  pub script : Script
-  pub reads : Reads script before now
+pub record IsUnbuilt
+    (log : Option (List ℕ)) (disk : OfDisk) (script : Script) (before now : Outside)
+    : Type 0 where
   pub first : History
   pub begins : Begins log disk script.tables first
   pub silent : IsSilent before now
   pub logs : LogKeeps log disk (begun_with first script) [] 0
 
--- A log is kept, and the disk failed where it was to be made or opened: nothing ran, and nothing was
--- printed. A file that was not empty is as it was.
-pub record FailsLog (log : Option (List ℕ)) (disk : OfDisk) (before now : Outside) : Type 0 where
-  pub script : Script
-  pub reads : Reads script before now
-  pub kept : IsSome log
-  pub started : MayBeStartedFor log disk
-  pub only_read : ForSome disk.file (λ bytes. bytes ≢ [] → disk.only_read)
-  pub silent : IsSilent before now
-
--- The file of a run's log is none of the workload's tables, and the line of the place where its
--- bytes leave the form is printed. Nothing ran, and the file is as it was.
-pub record HasNoLog
-    (Prints : Option (List ℕ) → Option (List ℕ) → List ℕ → Type 0) (log : Option (List ℕ))
-    (disk : OfDisk) (before now : Outside)
-    : Type 0 where
-  pub script : Script
-  pub reads : Reads script before now
-  pub started : IsStartedFor log disk
-  pub place : ℕ
-  pub none : ForSome disk.file (λ bytes. (bytes ≢ []) × IsNoLog script.tables bytes place)
-  pub only_read : disk.only_read
-  pub printed : Prints before.printed now.printed (log_text script.tables [] (Some place))
-  pub outlet : LeavesOutlet before now
-
--- the line that tells that a log leaves a table more rows than it takes
-abbrev pub log_too_large : List ℕ
-log_too_large = codes "log too large" ++ line_feed ∷ []
-
--- The commits of a run's log leave a table more rows than it takes, and the line that tells so is
--- printed. Nothing ran, and the file is as it was.
+-- The log's commits leave a table more rows than it takes, and the line that tells so is printed.
+-- Nothing ran, and the file is as it was.
 pub record IsLogFull
     (Prints : Option (List ℕ) → Option (List ℕ) → List ℕ → Type 0) (log : Option (List ℕ))
-    (disk : OfDisk) (before now : Outside)
+    (disk : OfDisk) (script : Script) (before now : Outside)
     : Type 0 where
-  pub script : Script
-  pub reads : Reads script before now
-  pub kept : IsSome log
+  pub kept : is_some log ≡ true
   pub first : History
   pub begins : Begins log disk script.tables first
   pub table : ℕ
@@ -359,6 +329,69 @@ pub record IsLogFull
   pub only_read : disk.only_read
   pub printed : Prints before.printed now.printed log_too_large
   pub outlet : LeavesOutlet before now
+
+-- The log's file is none of the workload's tables, and the line of the place where its bytes leave
+-- the form is printed. Nothing ran, and the file is as it was.
+pub record HasNoLog
+    (Prints : Option (List ℕ) → Option (List ℕ) → List ℕ → Type 0) (log : Option (List ℕ))
+    (disk : OfDisk) (script : Script) (before now : Outside)
+    : Type 0 where
+  pub started : IsStartedFor log disk
+  pub place : ℕ
+  pub none : ForSome disk.file (λ bytes. (bytes ≢ []) × IsNoLog script.tables bytes place)
+  pub only_read : disk.only_read
+  pub printed : Prints before.printed now.printed (log_text script.tables [] (Some place))
+  pub outlet : LeavesOutlet before now
+
+-- There was no memory to open the log: nothing ran, nothing was printed, the outlet was not started,
+-- and the file is as it was.
+pub record IsUnopened (log : Option (List ℕ)) (disk : OfDisk) (before now : Outside) : Type 0 where
+  pub started : IsStartedFor log disk
+  pub only_read : disk.only_read
+  pub silent : IsSilent before now
+
+-- The disk failed where the log was to be made or opened: nothing ran, nothing was printed, and the
+-- outlet was not started. A file that was not empty is as it was.
+pub record FailsLog (log : Option (List ℕ)) (disk : OfDisk) (before now : Outside) : Type 0 where
+  pub started : MayBeStartedFor log disk
+  pub only_read : ForSome disk.file (λ bytes. bytes ≢ [] → disk.only_read)
+  pub silent : IsSilent before now
+
+-- How the run of a workload ends, with this path for its export and this one for its log.
+abbrev pub ScriptEnds : Option (List ℕ) → Option (List ℕ) → OfDisk → Script → Status → Outside
+    → Outside → Type 0
+ScriptEnds path log disk script status.Done before now =
+    IsBuilt path log disk script status.Done before now
+ScriptEnds path log disk script status.Usage before now = ⊥
+ScriptEnds path log disk script status.Refused before now = ⊥
+ScriptEnds path log disk script status.ReadFault before now = ⊥
+ScriptEnds path log disk script status.OutFault before now =
+    HasNoLog AppendsFront log disk script before now
+    ⊎ IsLogFull AppendsFront log disk script before now
+    ⊎ IsBuilt path log disk script status.OutFault before now
+ScriptEnds path log disk script status.ExportFault before now =
+    IsBuilt path log disk script status.ExportFault before now
+ScriptEnds path log disk script status.Memory before now =
+    IsUnopened log disk before now
+    ⊎ IsUnbuilt log disk script before now
+    ⊎ IsBuilt path log disk script status.Memory before now
+ScriptEnds path log disk script status.NotAStream before now = ⊥
+ScriptEnds path log disk script status.TooLong before now = ⊥
+ScriptEnds path log disk script status.LogFault before now =
+    FailsLog log disk before now
+    ⊎ IsBuilt path log disk script status.LogFault before now
+ScriptEnds path log disk script status.NotALog before now =
+    HasNoLog Appends log disk script before now
+ScriptEnds path log disk script status.LogFull before now =
+    IsLogFull Appends log disk script before now
+ScriptEnds path log disk script status.GroupTooLong before now =
+    IsBuilt path log disk script status.GroupTooLong before now
+
+-- The input is a workload, whose run ended so.
+abbrev pub IsRunOf : Option (List ℕ) → Option (List ℕ) → OfDisk → Status → Outside → Outside
+    → Type 0
+IsRunOf path log disk ended before now =
+    (script : Script) × Reads script before now × ScriptEnds path log disk script ended before now
 
 -- How the program ends where the words ask for a run, with this path for its export and this one
 -- for its log.
@@ -370,22 +403,18 @@ RunEnds path log disk status.Refused before now = IsLeft disk × IsRefused Appen
 RunEnds path log disk status.ReadFault before now = IsLeft disk × IsSilent before now
 RunEnds path log disk status.OutFault before now =
     (IsLeft disk × IsRefused AppendsFront before now)
-    ⊎ HasNoLog AppendsFront log disk before now
-    ⊎ IsLogFull AppendsFront log disk before now
     ⊎ IsRunOf path log disk status.OutFault before now
 RunEnds path log disk status.ExportFault before now =
     IsRunOf path log disk status.ExportFault before now
 RunEnds path log disk status.Memory before now =
-    IsUnopened log disk before now
-    ⊎ IsUnbuilt log disk before now
+    (IsLeft disk × IsSilent before now)
     ⊎ IsRunOf path log disk status.Memory before now
 RunEnds path log disk status.NotAStream before now = ⊥
 RunEnds path log disk status.TooLong before now = IsLeft disk
     × ConsumesAtLeast before.left now.left (2 ^ 32) × IsSilent before now
-RunEnds path log disk status.LogFault before now = FailsLog log disk before now
-    ⊎ IsRunOf path log disk status.LogFault before now
-RunEnds path log disk status.NotALog before now = HasNoLog Appends log disk before now
-RunEnds path log disk status.LogFull before now = IsLogFull Appends log disk before now
+RunEnds path log disk status.LogFault before now = IsRunOf path log disk status.LogFault before now
+RunEnds path log disk status.NotALog before now = IsRunOf path log disk status.NotALog before now
+RunEnds path log disk status.LogFull before now = IsRunOf path log disk status.LogFull before now
 RunEnds path log disk status.GroupTooLong before now =
     IsRunOf path log disk status.GroupTooLong before now
 

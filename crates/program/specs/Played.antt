@@ -1,5 +1,5 @@
 -- How the calls within a run end.
-use Rattle.std.specs.Prelude.{◌≡◌, ℕ, List, Option}
+use Rattle.std.specs.Prelude.{◌≡◌, ◌⊎◌, ℕ, List, Option}
 use Rattle.std.specs.Io.KnownBytes.{Appends}
 use Rattle.byte_ports.specs.Calls.{AppendsFront}
 use Rattle.script_text.specs.declared.fault.ScriptFault.{ScriptFault}
@@ -50,3 +50,9 @@ RefusalEnds told status.LogFault before now = ⊥
 RefusalEnds told status.NotALog before now = ⊥
 RefusalEnds told status.LogFull before now = ⊥
 RefusalEnds told status.GroupTooLong before now = ⊥
+
+-- How the printing of a text ends behind which the program ends so.
+abbrev pub LineEnds : Status → List ℕ → Status → Option (List ℕ) → Option (List ℕ) → Type 0
+LineEnds told text ended before now = ((ended ≡ told) × Appends before now text)
+    ⊎ ((ended ≡ status.OutFault) × AppendsFront before now text)
+    ⊎ ((ended ≡ status.Memory) × (now ≡ before))

@@ -30,7 +30,10 @@ pub enum Work<'a> {
     /// To check an output of a workload.
     Check,
     /// To run the workload that a seed and a size generate.
-    Bench { seed: u64, size: u32 },
+    Bench {
+        seed: u64,
+        size: u32,
+    },
     /// To tell what the log at this path holds.
     Log(&'a str),
     /// To tell what the program does.

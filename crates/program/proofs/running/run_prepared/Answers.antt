@@ -3,7 +3,7 @@ use Rattle.store_rounds.specs.Workloads.{WentBy}
 use Rattle.program.specs.Outcome.{outside}
 use Rattle.program.specs.Played.{PlayEnds}
 use Rattle.program.proofs.Played.{ends_with_path, ends_without_path}
-use Rattle.program.proofs.performing.run_script.Goals as goal
+use Rattle.program.proofs.running.run_script.Goals as goal
 
 pub returns-in_default-clause-ends : goal.returns-in_default-clause-ends
 returns-in_default-clause-ends g c = λ left_old left_new.

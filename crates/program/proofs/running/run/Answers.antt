@@ -2,7 +2,7 @@ use Rattle.std.proofs.Common.{ℕ, ◌<◌, ◌^◌, List, length, option_map, s
 use Rattle.program.specs.Outcome.{IsWorkload, Outside, ScriptEnds, outside}
 use Rattle.program.specs.declared.status.Status.{Status}
 use Rattle.program.proofs.Scripts.{refusal_ends, run_ends, text_is}
-use Rattle.program.proofs.performing.run.Goals as goal
+use Rattle.program.proofs.running.run.Goals as goal
 
 pub run_script-requires-clause-short : goal.run_script-requires-clause-short
 run_script-requires-clause-short g c κs within =
