@@ -70,10 +70,9 @@ fn run_generated<R: Wait + Threads + Sync, D: Disk, G: Gate + Sync>(
     let script = generate(alloc, seed, size)?;
     let mut output = KeptOutput::new(alloc);
     let run = PreparedRun::build(alloc, script)?;
-    let ended = run.run(rt, alloc, gate, None, disk, &mut output, &mut PureOutlet);
-    if ended.is_err() {
+    let Ok(()) = run.run(rt, alloc, gate, None, disk, &mut output, &mut PureOutlet) else {
         return Err(AllocError);
-    }
+    };
     // The run has used the script up; the replies are read by another one.
     let script = generate(alloc, seed, size)?;
     count_replies(alloc, &script, output.as_slice())
