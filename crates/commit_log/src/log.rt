@@ -114,6 +114,7 @@ impl Log {
             → StandsOf tables (D.told disk.new) (D.may_leave disk.new) (before ++ commits.now)
             self.new) }
 
+        ensures works { OnOk result (self.new.payloads.failed ≡ false) }
         ensures stays { self.old.payloads.failed ≡ true → result ≡ Err LogFault.Failed }
         ensures failed { IsErrOf result LogFault.Failed → (self.old.payloads.failed ≡ true)
             × (disk.new ≡ disk.old) × (self.new ≡ self.old) }

@@ -63,6 +63,7 @@ impl PayloadLog {
             → StandsBy (D.told disk.new) (D.may_leave disk.new) (payloads ++ payload.now ∷ [])
             self.new) }
 
+        ensures works { OnOk result (self.new.failed ≡ false) }
         ensures stays { self.old.failed ≡ true → result ≡ Err LogFault.Failed }
         ensures failed { IsErrOf result LogFault.Failed
             → (self.old.failed ≡ true) × (disk.new ≡ disk.old) × (self.new ≡ self.old) }

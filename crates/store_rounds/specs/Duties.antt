@@ -97,12 +97,15 @@ pub record AreDuties (crew : Crew) (round : ℕ) (lines : List Line) (duties : L
 
 -- ---- what came of them
 
--- Why the round stops the run, if it does: an outlet that failed comes before want of memory.
-abbrev pub fault_of : List Duty → Option RunFault
-fault_of duties =
-    if list_any is_cut duties then Some fault.Export
-    else (if list_any (λ duty. not (is_whole duty)) duties then Some fault.Memory else None)
+-- the lines of one are not whole
+abbrev pub is_lost : Duty → Bool
+is_lost duty = not (is_whole duty)
 
 -- the text of the lines of all, one behind the other
 abbrev pub duties_text : List Duty → List ℕ
 duties_text duties = flat_map (λ duty. duty.lines.text.items) duties
+
+-- This is the text of the lines of all, each of whom came to its end.
+pub record IsWholeText (duties : List Duty) (text : List ℕ) : Type 0 where
+  pub none_lost : list_any is_lost duties ≡ false
+  pub text_is : text ≡ duties_text duties

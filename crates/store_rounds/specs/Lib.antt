@@ -11,6 +11,8 @@ pub mod Agendas
 pub mod Duties
 pub mod Rounds
 pub mod Logging
+pub mod Grouped
+pub mod Adding
 pub mod Prepared
 pub mod Workloads
 pub mod Runs

@@ -1,6 +1,7 @@
 -- What a crew did in a round.
 use Rattle.std.specs.Prelude.{◌≡◌, ◌⊎◌, ℕ, ◌+◌, ◌*◌, ◌<◌, Bool, true, false, List, ◌++◌, All}
 use Rattle.std.specs.Prelude.{Option, get_or, length}
+use Rattle.std.specs.List.{list_any}
 use Rattle.cell_model.specs.declared.table.TableDecl.{TableDecl}
 use Rattle.event_spec.specs.Replay.{IsLawfulLog}
 use Rattle.outcome_spec.specs.Forms.{commands_of}
@@ -17,10 +18,12 @@ use Rattle.shared_store.specs.Store.{HasRoomFor, IsNamed, StoreView, shape_in}
 use Rattle.shared_store.specs.declared.session.Session.{Session}
 use Rattle.store_rounds.specs.Turns.{most_of_turn}
 use Rattle.store_rounds.specs.declared.crew.Crew.{Crew}
+use Rattle.store_rounds.specs.declared.duty.Duty.{Duty}
 use Rattle.store_rounds.specs.declared.fault.RunFault.{RunFault}
 use Rattle.store_rounds.specs.declared.fault.RunFault.TheVariants as fault
 use Rattle.store_rounds.specs.Answered.{SentBy, most_events}
 use Rattle.store_rounds.specs.Crews.{crew_calls, crew_shares, turns_in}
+use Rattle.store_rounds.specs.Duties.{duties_text, is_lost}
 use Rattle.store_rounds.specs.Row.{MetIn}
 use Rattle.store_rounds.specs.Worked.{EndsAtExport, Worked, asked_in}
 
@@ -98,17 +101,19 @@ abbrev pub AllTurned : List TableDecl → Crew → (Who → List Call) → Type 
 AllTurned tables crew calls = (k : ℕ) → k < crew.workers
     → asked_in (calls (TheWorker (k + 1))) ≡ turns_in tables crew.turns
 
--- Each session carried out all its commands of a round and each worker made its turns, this is the
--- text of their lines, the outlet grew by what they sent, and then all met.
+-- Each session carried out all its commands of a round and each worker made its turns, the outlet
+-- grew by what they sent, and then all met. The text of their lines, where these are whole, is that
+-- of their duties.
 pub record RanRound
     (store : StoreView) (round : ℕ) (crew : Crew) (old new : List Session) (lines : List Line)
-    (text : List ℕ) (exported exported_now : Option (List ℕ))
+    (duties : List Duty) (exported exported_now : Option (List ℕ))
     : Type 0 where
   pub calls : Who → List Call
   pub ran : RowRan store crew old new calls
   pub asked : AskedAll crew.sessions lines (λ n. calls (TheSession n))
   pub turned : AllTurned (shape_in store).tables crew calls
-  pub text_is : text ≡ round_text (shape_in store).tables round (crew_shares crew calls)
+  pub text_is : list_any is_lost duties ≡ false
+      → duties_text duties ≡ round_text (shape_in store).tables round (crew_shares crew calls)
   pub sent : SentBy (shape_in store).tables (crew_calls crew calls) exported exported_now
 
 -- The outlet failed at the export of one session, which stopped there. The others carried out all
@@ -124,24 +129,12 @@ pub record RanToExport
   pub sent : SentBy (shape_in store).tables (crew_calls crew calls) exported exported_now
   pub last : OneEndsAtExport crew.sessions (λ n. calls (TheSession n))
 
--- Each session carried out all its commands of a round and each worker made its turns, the outlet
--- grew by what they sent, and then all met; there was no memory for the text of their lines.
-pub record RanUnshown
-    (store : StoreView) (crew : Crew) (old new : List Session) (lines : List Line)
-    (exported exported_now : Option (List ℕ))
-    : Type 0 where
-  pub calls : Who → List Call
-  pub ran : RowRan store crew old new calls
-  pub asked : AskedAll crew.sessions lines (λ n. calls (TheSession n))
-  pub turned : AllTurned (shape_in store).tables crew calls
-  pub sent : SentBy (shape_in store).tables (crew_calls crew calls) exported exported_now
-
 -- A round was not begun, for want of memory.
 pub record NotBegun (old new : List Session) (exported exported_now : Option (List ℕ)) : Type 0 where
   pub same : new ≡ old
   pub none_sent : exported_now ≡ exported
 
--- How a round ends that stops the run.
+-- How a round ends that stops the run before its commits and its lines are looked at.
 abbrev pub RoundStops
     : StoreView → Crew → List Session → List Session → List Line → Option (List ℕ) → Option (List ℕ)
     → RunFault → Type 0
@@ -150,4 +143,5 @@ RoundStops store crew old new lines exported exported_now fault.Export =
     RanToExport store crew old new lines exported exported_now
 RoundStops store crew old new lines exported exported_now fault.Memory =
     NotBegun old new exported exported_now
-    ⊎ RanUnshown store crew old new lines exported exported_now
+RoundStops store crew old new lines exported exported_now fault.Log = ⊥
+RoundStops store crew old new lines exported exported_now fault.GroupTooLong = ⊥

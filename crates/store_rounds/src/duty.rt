@@ -1,5 +1,5 @@
 //! What each of a row is to do in a round, and what comes of it.
-ghost use Rattle.std.specs.Prelude.{◌≡◌, ◌+◌, ◌++◌, ◌<◌, ◌^◌, IfOk, OnOk, not, true};
+ghost use Rattle.std.specs.Prelude.{◌≡◌, ◌+◌, ◌++◌, ◌<◌, ◌^◌, Err, IfOk, OnErr, OnOk, true};
 ghost use Rattle.std.specs.List.{list_all, list_any};
 ghost use Rattle.workload_spec.specs.Valid.{is_export, is_within};
 ghost use Rattle.store_rounds.specs.Duties.{
@@ -7,11 +7,12 @@ ghost use Rattle.store_rounds.specs.Duties.{
   AreOfSessions,
   AreWithWorkers,
   IsNew,
+  IsWholeText,
   asks_export,
   duties_text,
-  fault_of,
   is_busy,
   is_cut,
+  is_lost,
   is_whole,
 };
 
@@ -203,22 +204,8 @@ fn add_workers(
     Ok(())
 }
 
-/// Why the round of these duties stops the run, if it does: the outlet failed, or there was no
-/// memory for a line.
-pub(crate) fn fault_of(duties: &[Duty]) -> Option<RunFault>
-    ensures { result ≡ fault_of duties.now }
-{
-    if any_is_cut(duties) {
-        return Some(RunFault::Export);
-    }
-    if any_is_lost(duties) {
-        return Some(RunFault::Memory);
-    }
-    None
-}
-
 /// Whether one of them stopped at an export, where the outlet failed.
-fn any_is_cut(duties: &[Duty]) -> bool
+pub(crate) fn any_is_cut(duties: &[Duty]) -> bool
     ensures { result ≡ list_any is_cut duties.now }
 {
     duties.iter().any(Duty::is_cut)
@@ -226,13 +213,31 @@ fn any_is_cut(duties: &[Duty]) -> bool
 
 /// Whether the lines of one of them are not whole.
 fn any_is_lost(duties: &[Duty]) -> bool
-    ensures { result ≡ list_any (λ duty. not (is_whole duty)) duties.now }
+    ensures { result ≡ list_any is_lost duties.now }
 {
     duties.iter().any(|duty| !duty.is_whole())
 }
 
+/// The text of the lines of all, each of whom came to its end.
+///
+/// # Errors
+///
+/// [`RunFault::Memory`]: there is no memory for the text, or there was none for a line.
+pub(crate) fn whole_text(alloc: Global, duties: Vec<Duty>) -> Result<Vec<u8>, RunFault>
+    ensures text { IfOk result (λ text. IsWholeText duties.items text.items) }
+    ensures only { OnErr result (result ≡ Err RunFault.Memory) }
+{
+    if any_is_lost(duties.as_slice()) {
+        return Err(RunFault::Memory);
+    }
+    match text_of(alloc, duties) {
+        Ok(text) => Ok(text),
+        Err(AllocError) => Err(RunFault::Memory),
+    }
+}
+
 /// The text of the lines of all, one behind the other.
-pub(crate) fn text_of(alloc: Global, duties: Vec<Duty>) -> Result<Vec<u8>, AllocError>
+fn text_of(alloc: Global, duties: Vec<Duty>) -> Result<Vec<u8>, AllocError>
     ensures { IfOk result (λ text. text.items ≡ duties_text duties.items) }
 {
     let mut text = Vec::new(alloc);

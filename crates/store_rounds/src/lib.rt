@@ -8,6 +8,7 @@ mod answer;
 mod away;
 mod crew;
 mod duty;
+mod ending;
 mod errand;
 mod fault;
 mod group;

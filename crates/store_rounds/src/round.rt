@@ -14,7 +14,7 @@ ghost use Rattle.store_rounds.specs.Stations.{AreFree};
 ghost use Rattle.store_rounds.specs.Workloads.{CountsExportFault};
 
 use crate::crew::Crew;
-use crate::duty::{duties_of, fault_of, text_of};
+use crate::duty::{Duty, any_is_cut, duties_of};
 use crate::errand::Server;
 use crate::fault::RunFault;
 use crate::room::{ServedDesk, Station};
@@ -22,22 +22,20 @@ use crate::row::meet_all;
 use crate::serving::serve_row;
 use byte_ports::{Gate, Sink};
 use shared_store::{Session, Store};
-use std::alloc::AllocError;
 use std::sync::Wait;
 use std::thread::Threads;
 use workload_spec::Round;
 
 /// Runs a round: the sessions of a row carry out their commands and its workers make their turns,
-/// all at the same time, and then all meet. Gives the text of their lines, session by session and
-/// worker by worker. An export goes to the outlet. `at_once` tells whether the machine runs several
-/// threads at the same time.
+/// all at the same time, and then all meet. Gives their duties with their lines, session by session
+/// and worker by worker, where none was cut off. An export goes to the outlet. `at_once` tells whether
+/// the machine runs several threads at the same time.
 ///
 /// # Errors
 ///
 /// [`RunFault::Export`] where the outlet failed at an export: its session stopped there, and the
-/// others ended their commands and turns. [`RunFault::Memory`] where there was no memory to begin
-/// the round, or for its lines: then all commands were carried out. In each case all that were at
-/// work met.
+/// others ended their commands and turns, and all met. [`RunFault::Memory`] where there was no memory
+/// to begin the round.
 pub(crate) fn run_round<'s, R: Wait + Threads + Sync, G: Gate, X: Sink>(
     rt: &R,
     server: &Server<'_, G>,
@@ -50,7 +48,7 @@ pub(crate) fn run_round<'s, R: Wait + Threads + Sync, G: Gate, X: Sink>(
     row: &mut [Session],
     round: Round,
     outlet: &mut X,
-) -> Result<Vec<u8>, RunFault>
+) -> Result<Vec<Duty>, RunFault>
     requires free { AreFree 0 desks.now stations.old }
     requires sessions { AreSessions store.now row.old }
     requires numbers { AreNumbered row.old }
@@ -64,8 +62,8 @@ pub(crate) fn run_round<'s, R: Wait + Threads + Sync, G: Gate, X: Sink>(
     requires one { count_by (λ line. is_export line.command) round ≤ 1 }
     requires commands { All (λ line. IsServed (shape_in store.now).tables line.command) round }
     ensures free { AreFree 0 desks.now stations.new }
-    ensures whole { IfOk result (λ text.
-        RanRound store.now number crew row.old row.new round text.items
+    ensures whole { IfOk result (λ duties.
+        RanRound store.now number crew row.old row.new round duties.items
         (X.written outlet.old) (X.written outlet.new)) }
     ensures part { IfErr result (RoundStops store.now crew row.old row.new round
         (X.written outlet.old) (X.written outlet.new)) }
@@ -87,11 +85,8 @@ pub(crate) fn run_round<'s, R: Wait + Threads + Sync, G: Gate, X: Sink>(
         outlet,
     );
     meet_all(store, row);
-    if let Some(fault) = fault_of(duties.as_slice()) {
-        return Err(fault);
+    if any_is_cut(duties.as_slice()) {
+        return Err(RunFault::Export);
     }
-    match text_of(server.alloc, duties) {
-        Ok(text) => Ok(text),
-        Err(AllocError) => Err(RunFault::Memory),
-    }
+    Ok(duties)
 }

@@ -14,6 +14,7 @@ ghost use Rattle.store_rounds.specs.Workloads.{CountsExportFault, CountsLogFault
 ghost use Rattle.store_rounds.specs.Workloads.{GoesPart, GoesWhole, IsUnlogged};
 
 use crate::crew::Crew;
+use crate::ending::end_round;
 use crate::errand::{Errand, Server};
 use crate::fault::RunFault;
 use crate::room::{Dispatcher, Room};
@@ -261,9 +262,11 @@ fn run_left<R: Wait + Threads + Sync, O: Sink, X: Sink, D: Disk, G: Gate>(
     let mut number = 0;
     for round in take_all(left).into_vec() {
         number += 1;
-        let text = run_round(
+        let duties = run_round(
             rt, server, store, desks, stations, number, crew, at_once, row, round, outlet,
         )?;
+        let sessions = crew.sessions as usize;
+        let text = end_round(server.alloc, sessions, row, duties, log, disk)?;
         if let Err(Failed) = write_all(out, text.as_slice()) {
             return Err(RunFault::Out);
         }
