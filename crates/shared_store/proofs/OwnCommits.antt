@@ -21,7 +21,9 @@ use Rattle.store_laws.proofs.Traces.{Lawful}
 use Rattle.store_laws.specs.Stretches.{reads_block}
 use Rattle.workload_spec.specs.declared.command.Command.{Command}
 use Rattle.workload_spec.specs.declared.reply.Said.{Said}
+use Rattle.shared_store.specs.Building.{IsNewSession, StartsKeeping}
 use Rattle.shared_store.specs.Commits.{without_first, written_behind}
+use Rattle.shared_store.specs.KeptCommits.{nothing_written}
 use Rattle.shared_store.specs.Store.{Answers, KeepsCommits, KeepsOn, StoreView, own_writes, seen, shape_in, wrote_of}
 use Rattle.shared_store.specs.declared.session.Session.{Session}
 use Rattle.shared_store.proofs.Noted.{one_none, writes_none}
@@ -130,6 +132,16 @@ kept_on taken (o ∷ made) w within =
       ap (λ commits. fold writes_behind (with_commits (own_written w.own o.event o.reply) commits) made) (sym (drop_grown taken w.commits more within)) ∙ rest.0,
       rest.1,
     )
+
+-- A session that was just built, and keeps its commits, keeps all of them.
+pub keeps_new : (store : StoreView) (number : ℕ) (s : Session) → IsNewSession store number s → StartsKeeping true s → KeepsCommits store 0 s
+keeps_new store number s is starts =
+    let none' : own_writes store s ≡ nothing_written =
+    ap (λ q. writes_of (own_in (shape_in store) q (seen s))) is.numbered ∙ ap writes_of is.none in
+    record {
+      within = omega arith;
+      kept = starts ∙ ap (λ (w : SessionWrites). Some (without_first 0 w)) (sym none');
+    }
 
 -- A session that keeps its commits keeps them behind a call.
 pub keeps_along : (store : StoreView) (old new : Session) (command : Command) (line : Said) → Answers store old new command line

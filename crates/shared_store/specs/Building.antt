@@ -1,5 +1,6 @@
 -- What a store is that was just built, and its row of sessions.
 use Rattle.std.specs.Prelude.{◌≡◌, ℕ, ◌+◌, ◌≤◌, Bool, List, [], None, Some, length, slice_get}
+pub use Rattle.core_parts.specs.FirstRows.{IsFirstFull}
 pub use Rattle.engine_core.specs.Core.{MayOpen}
 use Rattle.event_spec.specs.Lawful.{transaction}
 use Rattle.hall_rule.specs.Hands.{Holds}

@@ -2,7 +2,7 @@ use Rattle.std.proofs.Common.{List, [], ◌∷◌, ◌++◌, Option, length, sym
 use Rattle.std.proofs.lemmas.Map.Iter.{rest_all, rest_more}
 use Rattle.shared_store.specs.KeptCommits.{RowView}
 use Rattle.isolation_spec.specs.declared.place.Place.{Place}
-use Rattle.shared_store.proofs.writes.laid_out.Goals as goal
+use Rattle.shared_store.proofs.session_writes.laid_out.Goals as goal
 
 pub loop-write-init : goal.loop-write-init
 loop-write-init c = record {

@@ -1,7 +1,7 @@
 use Rattle.std.proofs.Common.{◌≡◌, ℕ, Bool, true, cond, is_some, length, ap, ◌∙◌, arith}
 use Rattle.isolation_spec.specs.Contents.{at_place}
 use Rattle.shared_store.specs.KeptCommits.{WritesView}
-use Rattle.shared_store.proofs.writes.SessionWrites.lay.Goals as goal
+use Rattle.shared_store.proofs.session_writes.SessionWrites.lay.Goals as goal
 
 pub invariant_of-self : goal.invariant_of-self
 invariant_of-self c =

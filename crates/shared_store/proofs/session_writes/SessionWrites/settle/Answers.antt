@@ -2,7 +2,7 @@ use Rattle.std.proofs.Common.{sym, ap, subst, ◌∙◌}
 use Rattle.shared_store.specs.Entering.{IsEntered}
 use Rattle.shared_store.specs.KeptCommits.{with_change}
 use Rattle.shared_store.proofs.Settled.{entered_away}
-use Rattle.shared_store.proofs.writes.SessionWrites.settle.Goals as goal
+use Rattle.shared_store.proofs.session_writes.SessionWrites.settle.Goals as goal
 
 pub returns-then-not-accepted : goal.returns-then-not-accepted
 returns-then-not-accepted c before change is =
