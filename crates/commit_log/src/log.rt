@@ -1,5 +1,5 @@
 //! A log of commits.
-ghost use Rattle.std.specs.Prelude.{◌≡◌, ◌≢◌, ℕ, ◌^◌, ◌<◌, ◌++◌, [], List, Some, Err, IfOk};
+ghost use Rattle.std.specs.Prelude.{◌≡◌, ◌≢◌, ℕ, ◌^◌, ◌<◌, ◌≤◌, ◌++◌, [], List, Some, Err, IfOk};
 ghost use Rattle.std.specs.Prelude.{IsErrOf, IsSome, OnErr, OnOk, false, length, true};
 ghost use Rattle.std.specs.Option.{ForSome};
 ghost use Rattle.cell_model.specs.declared.table.TableDecl.{TableDecl};
@@ -42,6 +42,7 @@ impl Log {
         ensures ok { IfOk result (λ log. D.told disk.old ≡ Some [] → (tables : List TableDecl)
             → StandsOf tables (D.told disk.new) (D.may_leave disk.new) [] log) }
         ensures works { IfOk result (λ log. log.payloads.failed ≡ false) }
+        ensures later { D.moment disk.old ≤ D.moment disk.new }
         ensures only { OnErr result (result ≡ Err LogFault.Disk) }
         ensures started { D.started disk.new ≡ D.started disk.old }
         ensures cause { CountsDisk (D.faults disk.old) (D.faults disk.new) result }

@@ -1,5 +1,5 @@
 //! A log, and how a payload is added to it.
-ghost use Rattle.std.specs.Prelude.{◌≡◌, ◌≢◌, ◌^◌, ◌<◌, ◌++◌, [], ◌∷◌, List, ℕ, Some, Err, IfOk};
+ghost use Rattle.std.specs.Prelude.{◌≡◌, ◌≢◌, ◌^◌, ◌<◌, ◌≤◌, ◌++◌, [], ◌∷◌, List, ℕ, Some, Err, IfOk};
 ghost use Rattle.std.specs.Prelude.{IsErrOf, OnErr, OnOk, false, length, true};
 ghost use Rattle.disk_ports.specs.Crashes.{LeavesOnly};
 
@@ -31,6 +31,7 @@ impl PayloadLog {
         ensures ok { IfOk result (λ log. D.told disk.old ≡ Some []
             → StandsBy (D.told disk.new) (D.may_leave disk.new) [] log) }
         ensures works { IfOk result (λ log. log.failed ≡ false) }
+        ensures later { D.moment disk.old ≤ D.moment disk.new }
         ensures only { OnErr result (result ≡ Err LogFault.Disk) }
         ensures started { D.started disk.new ≡ D.started disk.old }
         ensures cause { CountsDisk (D.faults disk.old) (D.faults disk.new) result }

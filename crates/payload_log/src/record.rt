@@ -1,5 +1,5 @@
 //! The writes of a log, each with the syncs that it needs.
-ghost use Rattle.std.specs.Prelude.{◌≡◌, ◌+◌, ◌^◌, ◌<◌, ◌++◌, [], ◌∷◌, List, ℕ, Some, IfOk};
+ghost use Rattle.std.specs.Prelude.{◌≡◌, ◌+◌, ◌^◌, ◌<◌, ◌≤◌, ◌++◌, [], ◌∷◌, List, ℕ, Some, IfOk};
 ghost use Rattle.std.specs.Prelude.{OnErr, OnOk, length};
 ghost use Rattle.disk_ports.specs.Faults.{Rose};
 ghost use Rattle.disk_ports.specs.Crashes.{LeavesOnly};
@@ -28,6 +28,7 @@ pub(crate) fn piece_of(alloc: Global, payload: &[u8]) -> Result<Vec<u8>, AllocEr
 pub(crate) fn write_new<D: Disk>(disk: &mut D) -> Result<(), Failed>
     ensures ok { OnOk result (D.told disk.old ≡ Some []
         → Stands (D.told disk.new) (D.may_leave disk.new) [] 8) }
+    ensures later { D.moment disk.old ≤ D.moment disk.new }
     ensures started { D.started disk.new ≡ D.started disk.old }
     ensures kept { OnOk result (D.faults disk.new ≡ D.faults disk.old) }
     ensures cause { OnErr result (Rose (D.faults disk.old) (D.faults disk.new)) }

@@ -2,6 +2,7 @@
 use Rattle.std.specs.Prelude.{◌≡◌, ◌+◌, Bool, All}
 use Rattle.isolation_spec.specs.Contents.{History}
 use Rattle.run_spec.specs.Ran.{IsRunnable, shape_of}
+pub use Rattle.shared_store.specs.Building.{IsFirstFull}
 use Rattle.shared_store.specs.Building.{IsNewRow, StartsKeeping}
 use Rattle.shared_store.specs.Store.{shape_in}
 use Rattle.store_rounds.specs.Crews.{crew_of}

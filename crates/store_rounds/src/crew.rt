@@ -1,6 +1,8 @@
 //! Who is at work in the rounds of a workload.
 ghost use Rattle.std.specs.Prelude.{◌≡◌, ◌+◌, ◌<◌, ◌^◌};
 
+use workload_spec::Script;
+
 /// Who is at work in each round: sessions, and workers behind them.
 #[derive(Clone, Copy, Debug, PartialEq, Eq)]
 pub struct Crew {
@@ -13,6 +15,19 @@ pub struct Crew {
 }
 
 impl Crew {
+    ghost use Rattle.store_rounds.specs.Crews.{crew_of};
+
+    /// The crew of a workload.
+    pub(crate) fn of(script: &Script) -> Crew
+        ensures { result ≡ crew_of script.now }
+    {
+        Crew {
+            sessions: script.sessions,
+            workers: script.workers,
+            turns: script.turns,
+        }
+    }
+
     /// How many they are together.
     pub(crate) fn size(self) -> u32
         requires { self.sessions + self.workers < 2 ^ 32 }

@@ -34,5 +34,6 @@ pub use fault::RunFault;
 pub use keeping::keep_up;
 pub use prepared::PreparedRun;
 pub use rounds::run_rounds;
+pub use shared_store::StartFault;
 pub use store_export::{ExportFault, export_uncounted};
 pub use worker_turning::turn;

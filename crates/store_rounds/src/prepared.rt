@@ -43,24 +43,28 @@ impl PreparedRun {
         ensures { IfOk result (IsPrepared script false) }
     {
         let whole = Snapshot::of(&script);
-        let Script {
-            version: _,
-            tables,
-            sessions,
-            workers,
-            turns,
-            rounds,
-            begun: _,
-        } = script;
-        let crew = Crew {
-            sessions,
-            workers,
-            turns,
+        let crew = Crew::of(&script);
+        let Script { tables, rounds, .. } = script;
+        let Ok(
+            Built {
+                store,
+                sessions: mut row,
+                mut workers,
+            },
+        ) = Store::build(alloc, tables.into_vec(), crew.sessions, crew.workers)
+        else {
+            return Err(AllocError);
         };
-        match Store::build(alloc, tables.into_vec(), sessions, workers) {
-            Ok(built) => PreparedRun::of(built, crew, rounds, whole),
-            Err(AllocError) => Err(AllocError),
+        if row.append(&mut workers).is_err() {
+            return Err(AllocError);
         }
+        Ok(PreparedRun {
+            store,
+            row,
+            crew,
+            rounds,
+            script: whole,
+        })
     }
 
     /// Builds the store of a workload as it is written, whose history begins with these commits.
@@ -81,46 +85,40 @@ impl PreparedRun {
         ensures full { IfErr result (λ fault. (table : ℕ) → fault ≡ StartFault.Full table
             → IsFirstFull (shape_of (begun_with first script)) table) }
     {
-        let Script {
-            version,
-            tables,
-            sessions,
-            workers,
-            turns,
-            rounds,
-            begun: _,
-        } = script;
-        let script = Script {
-            version,
-            tables,
-            sessions,
-            workers,
-            turns,
-            rounds,
-            begun: first,
-        };
+        let script = begin_with(first, script);
         let whole = Snapshot::of(&script);
+        let crew = Crew::of(&script);
         let Script {
-            version: _,
             tables,
-            sessions,
-            workers,
-            turns,
             rounds,
             begun,
+            ..
         } = script;
-        let crew = Crew {
-            sessions,
-            workers,
-            turns,
+        let built = Store::build_from(
+            alloc,
+            tables.into_vec(),
+            crew.sessions,
+            crew.workers,
+            &begun,
+        );
+        let Built {
+            store,
+            sessions: mut row,
+            mut workers,
+        } = match built {
+            Ok(built) => built,
+            Err(fault) => return Err(fault),
         };
-        match Store::build_from(alloc, tables.into_vec(), sessions, workers, &begun) {
-            Ok(built) => match PreparedRun::of(built, crew, rounds, whole) {
-                Ok(run) => Ok(run),
-                Err(AllocError) => Err(StartFault::Memory),
-            },
-            Err(fault) => Err(fault),
+        if row.append(&mut workers).is_err() {
+            return Err(StartFault::Memory);
         }
+        Ok(PreparedRun {
+            store,
+            row,
+            crew,
+            rounds,
+            script: whole,
+        })
     }
 
     /// Runs the workload. The lines of a round are printed when it has ended, session by session and
@@ -173,5 +171,29 @@ impl PreparedRun {
         run_rounds(
             rt, alloc, gate, &store, crew, row, &script, rounds, &mut log, disk, out, outlet,
         )
+    }
+}
+
+/// The workload, over a store that begins with these commits.
+fn begin_with(first: History, script: Script) -> Script
+    ensures { result ≡ begun_with first script }
+{
+    let Script {
+        version,
+        tables,
+        sessions,
+        workers,
+        turns,
+        rounds,
+        begun: _,
+    } = script;
+    Script {
+        version,
+        tables,
+        sessions,
+        workers,
+        turns,
+        rounds,
+        begun: first,
     }
 }
