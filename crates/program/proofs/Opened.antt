@@ -6,11 +6,11 @@ use Rattle.byte_ports.specs.Calls.{AppendsFront}
 use Rattle.isolation_spec.specs.Contents.{History}
 use Rattle.log_spec.specs.Reading.{IsNoLog}
 use Rattle.log_text.specs.Lines.{log_text}
-use Rattle.run_spec.specs.Ran.{RoundRun, shape_of}
+use Rattle.run_spec.specs.Ran.{IsRunnable, RoundRun, shape_of}
 use Rattle.store_rounds.specs.Logging.{OfLogged}
 use Rattle.store_rounds.specs.Prepared.{IsFirstFull, begun_with}
 use Rattle.workload_spec.specs.declared.script.Script.{Script}
-use Rattle.program.specs.Outcome.{Begins, HasNoLog, IsBuilt, IsLogFull, IsStartedFor, LeavesOutlet, LogKeeps, OfDisk, Outside, ScriptEnds}
+use Rattle.program.specs.Outcome.{Begins, HasNoLog, IsBuilt, IsLogFull, IsStartedFor, LeavesOutlet, LogKeeps, OfDisk, Outside, RoundsEnd, ScriptEnds, log_too_large}
 use Rattle.program.specs.Played.{LineEnds}
 use Rattle.program.specs.Runs.{BuiltEnds, FindsNoRoom, FindsNoSlots, NoLog, OpenedEnds, UnloggedEnds}
 use Rattle.program.specs.declared.status.Status.{Status}
@@ -100,3 +100,44 @@ unlogged_ends path disk script ended before now begun (inl ends) =
 unlogged_ends path disk script ended before now begun (inr ends) =
     subst (λ (e : Status). ScriptEnds path None disk script e before now) (sym ends.told)
     (inr (inl (record { first = script.begun; begins = begun; silent = ends.silent; logs = tt })))
+
+-- the rounds of a run without a log, over a store that was built for its workload
+pub unlogged_built : (path : Option (List ℕ)) (Logs : OfLogged) (script other : Script) (ended : Status) (before now : Outside)
+    → other ≡ script → IsRunnable script → RoundsEnd path false Logs other ended before now → UnloggedEnds path script ended before now
+unlogged_built path Logs script other ended before now is runnable ends = inl (record {
+  runnable = runnable;
+  ends = rounds_told path false Logs NoLog script before now (λ rounds printed told. tt) ended
+      (subst (λ (s : Script). RoundsEnd path false Logs s ended before now) is ends);
+})
+
+-- ---- behind the opening
+
+module _ (path : Option (List ℕ)) (Same : Type 0) (Logs : Script → OfLogged) (script : Script) (ended : Status) (before now : Outside) where
+  -- the rounds of a run with a log, over a store that was built for its workload
+  pub opened_built : (other : Script) → other ≡ script → IsRunnable script → RoundsEnd path true (Logs other) other ended before now
+      → OpenedEnds path Same (Logs script) script ended before now
+  opened_built other is runnable ends = inl (record {
+    runnable = runnable;
+    ends = subst (λ (s : Script). RoundsEnd path true (Logs s) s ended before now) is ends;
+  })
+
+  -- a log that is too large
+  pub too_large_ends : (table : ℕ) → IsFirstFull (shape_of script) table → Same → LeavesOutlet before now → ended ≢ status.Memory
+      → LineEnds status.LogFull log_too_large ended before.printed now.printed → OpenedEnds path Same (Logs script) script ended before now
+  too_large_ends table full same outlet spared (inl (is, printed)) = inr (inr (inl (record {
+    told = is;
+    table = table;
+    full = full;
+    same = same;
+    printed = printed;
+    outlet = outlet;
+  })))
+  too_large_ends table full same outlet spared (inr (inl (is, printed))) = inr (inr (inr (record {
+    told = is;
+    table = table;
+    full = full;
+    same = same;
+    printed = printed;
+    outlet = outlet;
+  })))
+  too_large_ends table full same outlet spared (inr (inr (is, printed))) = absurd (spared is)

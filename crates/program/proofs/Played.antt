@@ -1,6 +1,6 @@
 -- How a run ends, by how its rounds ended.
 use Rattle.std.proofs.Common.{◌≡◌, ◌⊎◌, ℕ, Bool, true, List, [], ◌∷◌, ◌++◌, Option, None, Some, refl, sym, subst, inl, inr, arith}
-use Rattle.std.specs.Prelude.{IsSome}
+use Rattle.std.specs.Prelude.{IsSome, is_some}
 use Rattle.run_spec.specs.Ran.{RoundRun}
 use Rattle.store_rounds.specs.Logging.{OfLogged}
 use Rattle.store_rounds.specs.Workloads.{GoesCutOff, GoesStopped, GoesTo, GoesToExport, GoesTooLong, GoesUnshown, GoesWhole, OfRounds, WentBy}
@@ -9,6 +9,7 @@ use Rattle.workload_spec.specs.declared.script.Line.{Line}
 use Rattle.workload_spec.specs.declared.script.Script.{Script}
 use Rattle.program.specs.Outcome.{Delivers, IsSilent, Outside, RanRounds, RoundsEnd, Sends, StopsAtExport, TellsFaults, outside, started_by}
 use Rattle.program.specs.Played.{PlayEnds}
+use Rattle.program.specs.Runs.{IsAlone}
 use Rattle.program.specs.declared.status.Status.{Status}
 use Rattle.program.specs.declared.status.Status.TheVariants as status
 use Rattle.program.proofs.Exports.{export_asked}
@@ -210,3 +211,14 @@ module _ (path : Option (List ℕ)) (keeps : Bool) (Logs Told : OfLogged) (scrip
     stopped = long_told (RanRounds path Logs script before now) (RanRounds path Told script before now) script before.printed now.printed with_log ends.stopped;
   }
   rounds_told _ ends = absurd ends
+
+-- A fault of a log comes only where there is one.
+pub fails_log : {T D : Type 0} (log : Option T) (old new : D) (ended : Status) → (log ≡ None → IsAlone old new ended)
+    → ended ≡ status.LogFault → is_some log ≡ true
+fails_log None old new ended alone is = absurd ((alone refl).no_fault is)
+fails_log (Some log) old new ended alone is = refl
+
+pub too_long : {T D : Type 0} (log : Option T) (old new : D) (ended : Status) → (log ≡ None → IsAlone old new ended)
+    → ended ≡ status.GroupTooLong → is_some log ≡ true
+too_long None old new ended alone is = absurd ((alone refl).fits is)
+too_long (Some log) old new ended alone is = refl

@@ -22,4 +22,4 @@ pub record IsPrepared (script : Script) (keeps : Bool) (run : PreparedRun) : Typ
   pub crew : run.crew ≡ crew_of script
   pub shape : shape_in run.store ≡ shape_of script
   pub row : IsNewRow run.store (script.sessions + script.workers) run.row.items
-  pub keeps : All (StartsKeeping keeps) run.row.items
+  pub kept : All (StartsKeeping keeps) run.row.items
