@@ -1,23 +1,29 @@
 -- That the rounds of a run survive on its disk, by what stands behind the opening of its log.
-use Rattle.std.proofs.Common.{◌≡◌, ◌⊎◌, ℕ, ◌≤◌, List, [], Option, None, Some, true, inl, inr, refl, sym, ap, subst, append-nil, arith}
+use Rattle.std.proofs.Common.{◌≡◌, ◌⊎◌, ◌∙◌, ℕ, ◌≤◌, ◌+◌, List, [], ◌∷◌, length, add-one, Option, None, Some, true, inl, inr, refl, sym, ap, subst, append-nil, arith}
 use Rattle.std.specs.Prelude.{IsSome, is_some}
 use Rattle.std.specs.Option.{ForSome}
 use Rattle.commit_log.specs.Commits.{StandsOf}
 use Rattle.commit_log.specs.Readings.{OnlyReads}
 use Rattle.commit_log.specs.declared.log.Log.{Log}
 use Rattle.disk_ports.specs.Crashes.{LeavesOnly}
-use Rattle.isolation_spec.specs.Contents.{History}
+use Rattle.isolation_spec.specs.Contents.{History, rows_left}
 use Rattle.log_spec.specs.Reading.{Gives, IsLogOf}
 use Rattle.run_laws.specs.Recovery.Leaves.{LeavesRounds, Survives}
-use Rattle.run_spec.specs.Ran.{RoundRun}
+use Rattle.run_spec.specs.Ran.{RoundRun, shape_of}
 use Rattle.store_rounds.specs.Logging.{ComesThrough, LogsRounds}
+use Rattle.store_rounds.specs.Prepared.{IsFirstFull, begun_with}
 use Rattle.workload_spec.specs.declared.script.Script.{Script}
 use Rattle.program.specs.Opening.{MakesOrReads}
 
 -- a file that is told, and empty if it is, is the empty one
-is_empty : (file : Option (List ℕ)) → IsSome file → ForSome file (λ bytes. bytes ≡ []) → file ≡ Some []
+pub is_empty : (file : Option (List ℕ)) → IsSome file → ForSome file (λ bytes. bytes ≡ []) → file ≡ Some []
 is_empty None some empty = absurd (let no : ⊥ = cc in no)
 is_empty (Some bytes) some empty = ap (λ (b : List ℕ). Some b) (empty bytes refl)
+
+-- bytes of which there are none
+pub no_bytes : (bytes : List ℕ) (size : ℕ) → size ≡ length bytes → size ≡ 0 → bytes ≡ []
+no_bytes [] size is zero = refl
+no_bytes (b ∷ bs) size is zero = absurd (let long : size ≡ length bs + 1 = is ∙ sym (add-one (length bs)) in omega (arith, long, zero))
 
 -- What has the commits that the run began with leaves its rounds, where none ran.
 first_left : (script : Script) (bytes : List ℕ) → Gives script.tables bytes script.begun → LeavesRounds script [] 0 bytes
@@ -27,6 +33,13 @@ first_left script bytes gives = record {
   within = omega arith;
   gives = subst (Gives script.tables bytes) (sym (append-nil script.begun)) gives;
 }
+
+-- No commits leave no rows, which each table takes.
+none_full : (script : Script) (table : ℕ) → IsFirstFull (shape_of (begun_with [] script)) table → ⊥
+none_full script table full =
+    let empty : length (rows_left [] table) ≡ 0 = refl in
+    let more = full.more in
+    omega (arith, more, empty)
 
 module _ {D : Type 0} (told : D → Option (List ℕ)) (may_leave : D → List ℕ → Type 0) (moment : D → ℕ) (left_since : D → ℕ → List ℕ → Type 0) where
   -- A log that stands comes through no rounds.
@@ -69,3 +82,10 @@ module _ {D : Type 0} (told : D → Option (List ℕ)) (may_leave : D → List �
               from_start (quiet old mid commits some opening full) c (through.any_moment.before (moment old) c later left);
           kept = through.kept;
         }
+
+  -- A log that leaves a table too many rows has commits, so that its file was only read.
+  pub full_reads : (old mid new : D) (script : Script) (commits : History) (table : ℕ) → IsFirstFull (shape_of (begun_with commits script)) table
+      → MakesOrReads told may_leave moment left_since old mid commits → new ≡ mid → OnlyReads told may_leave moment left_since old new
+  full_reads old mid new script commits table full (inl made) same =
+      absurd (none_full script table (subst (λ (first : History). IsFirstFull (shape_of (begun_with first script)) table) made.none full))
+  full_reads old mid new script commits table full (inr reads) same = subst (λ (d : D). OnlyReads told may_leave moment left_since old d) (sym same) reads

@@ -172,7 +172,8 @@ fn run_logged<R: Wait + Threads + Sync, O: Sink, X: Outlet, D: Disk, G: Gate + S
             tell_no_log(alloc, script.tables.as_slice(), place, out)
         }
         Err(LogFault::Disk) => Status::LogFault,
-        Err(LogFault::Failed | LogFault::Memory) => Status::Memory,
+        Err(LogFault::Memory) => Status::Memory,
+        Err(LogFault::Failed) => unreachable!(),
     }
 }
 

@@ -38,7 +38,7 @@ pub returns-in-Err-clause-ends : goal.returns-in-Err-clause-ends
 returns-in-Err-clause-ends g c =
     refusal_ends (option_map (λ p. p.now) c.args.path) (option_map (λ p. p.now) c.args.log_path)
     (of_disk g.D.Disk.told g.D.Disk.started g.D.Disk.may_leave g.D.Disk.moment g.D.Disk.left_since c.args.disk.now c.args.disk.now)
-    (is_left g.D.Disk.told g.D.Disk.may_leave g.D.Disk.moment g.D.Disk.left_since g.D.Disk.only_now g.D.Disk.started c.args.disk.now)
+    (is_left g.D.Disk.told g.D.Disk.may_leave g.D.Disk.moment g.D.Disk.left_since g.met.D.Disk.only_now g.D.Disk.started c.args.disk.now)
     c.refuse.result c.in-Err.fault c.in-Ok.bytes.items _ _ _ _ _ _
     c.in-Ok.ensures.bytes c.in-Ok.ensures.end (omega (arith, c.in-Ok.ensures.short, c.in-Ok.bytes.ok.0))
     (rw c.deref.ensures.value at c.in-Err.ensures.read) c.refuse.ensures.ends
