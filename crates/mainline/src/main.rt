@@ -1,6 +1,6 @@
-//! Runs workloads over the store: `mainline run [--export PATH]` reads one from standard input,
-//! prints the replies, and writes the export as an Arrow stream to the path. `mainline log PATH`
-//! prints the commits of a log.
+//! Runs workloads over the store: `mainline run [--export PATH] [--log PATH]` reads one from standard
+//! input, prints the replies, writes the export as an Arrow stream to its path, and keeps the commits
+//! in the log at its path. `mainline log PATH` prints the commits of a log.
 #![tactic(auto)]
 
 use byte_ports::{FileOutlet, OpenGate, StdSink, StdSource, SystemFiles};

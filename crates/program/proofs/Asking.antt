@@ -1,5 +1,5 @@
 -- What the words ask for, by what `clap` makes of them.
-use Rattle.std.proofs.Common.{◌≡◌, ◌≢◌, Bool, true, bytes_eq, codes, if◌then◌else◌, List, [], ◌∷◌, Option, None, Some, Result, Ok, Err, Box, refl, ap, ap₂, sym, ◌∙◌, subst, option_map, ⊎_elim, IfOk, IsErrOf}
+use Rattle.std.proofs.Common.{◌≡◌, ◌≢◌, Bool, true, bytes_eq, codes, List, [], ◌∷◌, Option, None, Some, Result, Ok, Err, Box, refl, ap, ap₂, sym, ◌∙◌, subst, option_map, ⊎_elim, IfOk, IsErrOf}
 use Rattle.std.specs.Box.{box_value}
 use Rattle.clap.specs.Words.{App, FailsBy, IsAmong, Kinds, Row, Text, fault_of, first_of, found_of, is_simple, is_simple_and_free, kind_of, rows_of, subcommand_name_of, subcommand_of, subcommand_rows, subcommand_rows_of}
 use Rattle.clap.specs.declared.parser.matches.ArgMatches.{ArgMatches}
@@ -11,7 +11,7 @@ use Rattle.clap.specs.declared.error.kind.ErrorKind.TheVariants as kind
 use Rattle.program.specs.declared.words.Work.{Work}
 use Rattle.program.specs.declared.words.WordsFault.{WordsFault}
 use Rattle.program.specs.declared.words.WordsFault.TheVariants as words_fault
-use Rattle.program.specs.Words.{Asked, ToRun, ToShow, ToCheck, asked_by, asked_of, bench_asks, command_asks, help_asks, log_asks, mainline_app, meaning, stopped_asks, unless_stopped}
+use Rattle.program.specs.Words.{Asked, asked_by, asked_of, mainline_app, meaning, stopped_asks, unless_stopped}
 use Rattle.program.proofs.Alike.{AreAlike, stops_alike}
 
 -- the command is one whose meaning `clap` tells
@@ -77,15 +77,3 @@ pub subcommand_met : (matches : ArgMatches) (name : Text) (rows : List Row)
     → Some name ≡ subcommand_name_of matches → Some rows ≡ option_map (λ p. p.1) (subcommand_rows (out-ArgMatches matches).subcommand)
     → subcommand_rows_of matches ≡ Some (name, rows)
 subcommand_met matches name rows named has = met (out-ArgMatches matches).subcommand name rows named has
-
--- the words name a run, with this value of its option
-pub run_asked : (name : Text) (rows : List Row) (value : Option Text)
-    → bytes_eq name (codes "run") ≡ true → value ≡ first_of (codes "export") rows → Some (ToRun value) ≡ command_asks name rows
-run_asked name rows value is same =
-    ap (λ (v : Option Text). Some (ToRun v)) same
-    ∙ ap (λ (b : Bool). if b then Some (ToRun (first_of (codes "export") rows))
-    else (if bytes_eq name (codes "show") then Some ToShow
-    else (if bytes_eq name (codes "check") then Some ToCheck
-    else (if bytes_eq name (codes "bench") then bench_asks rows
-    else (if bytes_eq name (codes "log") then log_asks rows
-    else (if bytes_eq name (codes "help") then help_asks rows else None)))))) (sym is)

@@ -5,6 +5,9 @@ pub mod Benched
 pub mod Exports
 pub mod Scripts
 pub mod Played
+pub mod Surviving
+pub mod Opened
+pub mod Disks
 pub mod Judged
 pub mod LogTold
 pub mod Shown

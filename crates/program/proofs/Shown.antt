@@ -209,6 +209,8 @@ module _
   ends-with-piece piece status.TooLong read small short ends = absurd ends
   ends-with-piece piece status.LogFault read small short ends = absurd ends
   ends-with-piece piece status.NotALog read small short ends = absurd ends
+  ends-with-piece piece status.LogFull read small short ends = absurd ends
+  ends-with-piece piece status.GroupTooLong read small short ends = absurd ends
 
   -- with the input
   at-end : Consumes left left' fed → IsAtEnd left' → length fed < 2 ^ 32 + 2 ^ 16
@@ -273,6 +275,8 @@ module _
   ends-with-input status.TooLong read end short ends = absurd ends
   ends-with-input status.LogFault read end short ends = absurd ends
   ends-with-input status.NotALog read end short ends = absurd ends
+  ends-with-input status.LogFull read end short ends = absurd ends
+  ends-with-input status.GroupTooLong read end short ends = absurd ends
 
   -- with a read that failed
   pub ends-with-fault : (then : Option (List ℕ)) → Consumes left then fed → Keeps then left'

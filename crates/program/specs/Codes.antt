@@ -16,3 +16,5 @@ status_code status.NotAStream = 7
 status_code status.TooLong = 8
 status_code status.LogFault = 9
 status_code status.NotALog = 10
+status_code status.LogFull = 11
+status_code status.GroupTooLong = 12

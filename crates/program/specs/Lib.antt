@@ -5,5 +5,7 @@ pub mod Codes
 pub mod Flushed
 pub mod Outcome
 pub mod LogTold
+pub mod Opening
+pub mod Runs
 pub mod Played
 pub mod Pieces

@@ -26,3 +26,5 @@ LogToldEnds tables path disk status.TooLong before now = ⊥
 LogToldEnds tables path disk status.LogFault before now = MayBeStarted path disk × (now ≡ before)
 LogToldEnds tables path disk status.NotALog before now = IsStartedWith path disk
     × (place : ℕ) × PrintsLog Appends tables disk.file (log_end.Broken place) before now
+LogToldEnds tables path disk status.LogFull before now = ⊥
+LogToldEnds tables path disk status.GroupTooLong before now = ⊥

@@ -1,7 +1,7 @@
 -- How a run of the program ends: what each status says of what was read, printed and sent.
 use Rattle.std.specs.Prelude.{◌≡◌, ◌≢◌, ◌<◌, ◌≤◌, ◌+◌, ◌^◌, ◌⊎◌, ℕ, Bool, true, false, length, List}
 use Rattle.std.specs.Prelude.{[], ◌∷◌, ◌++◌, Option}
-use Rattle.std.specs.Prelude.{None, Some, option_map, codes, decimal, Ok, Err, IsSome}
+use Rattle.std.specs.Prelude.{None, Some, option_map, codes, decimal, Ok, Err, IsSome, is_some}
 use Rattle.std.specs.Prelude.{if◌then◌else◌}
 use Rattle.std.specs.Io.KnownBytes.{Appends, Consumes, IsAtEnd}
 use Rattle.std.specs.Option.{ForSome}
@@ -17,14 +17,19 @@ use Rattle.workload_spec.specs.Grammar.{Fault, checked_of, refused_text, script_
 use Rattle.workload_spec.specs.Words.{line_feed}
 use Rattle.outcome_spec.specs.Explained.{Explained, failing_line}
 use Rattle.run_spec.specs.Occurrences.{Logged}
-use Rattle.run_spec.specs.Ran.{Ran, RoundRun}
+use Rattle.run_spec.specs.Ran.{IsRunnable, Ran, RoundRun, shape_of}
+use Rattle.run_laws.specs.Recovery.Leaves.{BeginsWith, Survives}
 use Rattle.run_laws.specs.Rounds.Fronts.{with_rounds}
-use Rattle.store_rounds.specs.Workloads.{GoesCutOff, GoesStopped, GoesToExport, GoesWhole}
+use Rattle.store_rounds.specs.Logging.{OfLogged}
+use Rattle.store_rounds.specs.Prepared.{IsFirstFull, begun_with}
+use Rattle.store_rounds.specs.Workloads.{GoesCutOff, GoesStopped, GoesToExport, GoesTooLong}
+use Rattle.store_rounds.specs.Workloads.{GoesUnshown, GoesWhole}
 use Rattle.isolation_spec.specs.Commits.{AreCommitsOf}
 use Rattle.isolation_spec.specs.Contents.{History}
 use Rattle.cell_model.specs.declared.table.TableDecl.{TableDecl}
 use Rattle.disk_ports.specs.Crashes.{LeavesJust}
-use Rattle.commit_log.specs.Readings.{ReadsAs}
+use Rattle.log_spec.specs.Reading.{IsNoLog}
+use Rattle.commit_log.specs.Readings.{OnlyReads, ReadsAs}
 use Rattle.commit_log.specs.declared.reading.LogEnd.{LogEnd}
 use Rattle.commit_log.specs.declared.reading.LogEnd.TheVariants as log_end
 use Rattle.log_text.specs.Lines.{log_text}
@@ -74,11 +79,15 @@ pub record IsSilent (before now : Outside) : Type 0 where
   pub printed : now.printed ≡ before.printed
   pub outlet : LeavesOutlet before now
 
--- the names with which an outlet was started, after a run with this path: once, where the workload
--- has an export
+-- the names with which an outlet was started, behind a start with this path if there was one
+abbrev pub started_if : Bool → List ℕ → Option (List (List ℕ)) → Option (List (List ℕ))
+started_if starts path names =
+    if starts then option_map (λ before. before ++ path ∷ []) names else names
+
+-- the names with which it was started, after a run with this path: once, where the workload has an
+-- export
 abbrev pub started_by : List ℕ → Script → Option (List (List ℕ)) → Option (List (List ℕ))
-started_by path script names =
-    if has_export script then option_map (λ before. before ++ path ∷ []) names else names
+started_by path script names = started_if (has_export script) path names
 
 -- The outlet after the workload `ran`, a front of the workload: started once, with the path, where
 -- the workload has an export, and sent what the replies say. Without a path the export is dropped.
@@ -87,6 +96,73 @@ Delivers None script ran output before now = LeavesOutlet before now
 Delivers (Some path) script ran output before now =
     (now.started ≡ started_by path script before.started)
     × Sends ran output before.exported now.exported
+
+-- ---- the disk
+
+-- What is told of the disk: the bytes of its file before, the names that it was started with before
+-- and now, whether its calls only read, and whether these rounds of a workload, so many of which were
+-- printed, survive on it.
+pub record OfDisk : Type 1 where
+  pub file : Option (List ℕ)
+  pub before : Option (List (List ℕ))
+  pub now : Option (List (List ℕ))
+  pub only_read : Type 0
+  pub survives : Script → OfLogged
+
+-- A disk that tells no bytes tells nothing of the rounds.
+abbrev pub of_disk : {D : Type 0} → (D → Option (List ℕ)) → (D → Option (List (List ℕ)))
+    → (D → List ℕ → Type 0) → (D → ℕ) → (D → ℕ → List ℕ → Type 0) → D → D → OfDisk
+of_disk told started may_leave moment left_since old new = record {
+  file = told old;
+  before = started old;
+  now = started new;
+  only_read = OnlyReads told may_leave moment left_since old new;
+  survives = λ script rounds printed. IsSome (told old)
+      → Survives told moment left_since may_leave old new script rounds printed;
+}
+
+-- the disk was not started
+abbrev pub IsUnstarted : OfDisk → Type 0
+IsUnstarted disk = disk.now ≡ disk.before
+
+-- the disk was started once, with this name
+abbrev pub IsStartedWith : List ℕ → OfDisk → Type 0
+IsStartedWith name disk = disk.now ≡ option_map (λ names. names ++ name ∷ []) disk.before
+
+-- the disk was started with the path, or was not
+abbrev pub MayBeStarted : List ℕ → OfDisk → Type 0
+MayBeStarted path disk = IsUnstarted disk ⊎ IsStartedWith path disk
+
+-- the disk was not started, and is as it was
+pub record IsLeft (disk : OfDisk) : Type 0 where
+  pub unstarted : IsUnstarted disk
+  pub only_read : disk.only_read
+
+-- A log is kept, and the disk was started with its path.
+abbrev pub IsStartedFor : Option (List ℕ) → OfDisk → Type 0
+IsStartedFor None disk = ⊥
+IsStartedFor (Some path) disk = IsStartedWith path disk
+
+-- The disk was started with the path of a log, if one is kept, or was not started.
+abbrev pub MayBeStartedFor : Option (List ℕ) → OfDisk → Type 0
+MayBeStartedFor None disk = IsUnstarted disk
+MayBeStartedFor (Some path) disk = MayBeStarted path disk
+
+-- The commits that a run over these tables begins with: none without a log; with one the disk was
+-- started with its path, and they are those that its file has.
+abbrev pub Begins : Option (List ℕ) → OfDisk → List TableDecl → History → Type 0
+Begins None disk tables first = first ≡ []
+Begins (Some path) disk tables first = IsStartedWith path disk
+    × BeginsWith tables disk.file first
+
+-- the line that tells that a log leaves a table more rows than it takes
+abbrev pub log_too_large : List ℕ
+log_too_large = codes "log too large" ++ line_feed ∷ []
+
+-- What is told of a run's log: its rounds survive on the disk.
+abbrev pub LogKeeps : Option (List ℕ) → OfDisk → Script → OfLogged
+LogKeeps None disk script rounds printed = Unit {0}
+LogKeeps (Some path) disk script rounds printed = disk.survives script rounds printed
 
 -- ---- the input
 
@@ -132,84 +208,215 @@ pub record IsRefused
   pub outlet : LeavesOutlet before now
 
 -- Rounds of these lines of the workload ran with some log of events, as these rounds, and had this
--- text, which snapshot isolation explains; the outlet has what the text's lines say.
+-- text, which snapshot isolation explains; so many of them were printed, were it in part. The outlet
+-- has what the text's lines say, and of the run's log of commits this is told.
 pub record RanRounds
-    (path : Option (List ℕ)) (script : Script) (before now : Outside) (asked : List (List Line))
-    (rounds : List RoundRun) (text : List ℕ)
+    (path : Option (List ℕ)) (Logs : OfLogged) (script : Script) (before now : Outside)
+    (asked : List (List Line)) (rounds : List RoundRun) (printed : ℕ) (text : List ℕ)
     : Type 0 where
   pub log : List Logged
   pub ran : Ran (with_rounds asked script) log text
   pub rounds_are : ran.rounds ≡ rounds
   pub explained : Explained (with_rounds asked script) text
   pub outlet : Delivers path script (with_rounds asked script) text before now
+  pub logs : Logs rounds printed
 
 -- All rounds ran, and their text was printed.
-abbrev pub IsRun : Option (List ℕ) → Script → Outside → Outside → Type 0
-IsRun path script before now =
-    GoesWhole (RanRounds path script before now) script before.printed now.printed
+abbrev pub IsRun : Option (List ℕ) → OfLogged → Script → Outside → Outside → Type 0
+IsRun path Logs script before now =
+    GoesWhole (RanRounds path Logs script before now) script before.printed now.printed
 
 -- Some first rounds ran, and the output failed at the text of the last of them: that of the rounds
 -- before it was printed, and of its own only a front.
-abbrev pub IsCutOff : Option (List ℕ) → Script → Outside → Outside → Type 0
-IsCutOff path script before now =
-    GoesCutOff (RanRounds path script before now) script before.printed now.printed
+abbrev pub IsCutOff : Option (List ℕ) → OfLogged → Script → Outside → Outside → Type 0
+IsCutOff path Logs script before now =
+    GoesCutOff (RanRounds path Logs script before now) script before.printed now.printed
 
 -- The run stopped for want of memory: where a round was to begin, or behind a round that ran whole
 -- and whose text was not shown. The text of the rounds before it was printed.
-abbrev pub IsStopped : Option (List ℕ) → Script → Outside → Outside → Type 0
-IsStopped path script before now =
-    GoesStopped (RanRounds path script before now) script before.printed now.printed
+abbrev pub IsStopped : Option (List ℕ) → OfLogged → Script → Outside → Outside → Type 0
+IsStopped path Logs script before now =
+    GoesStopped (RanRounds path Logs script before now) script before.printed now.printed
 
 -- The run stopped behind a round in which the outlet failed at an export, which counts as answered
 -- `memory`: a front of its stream was sent, its session stopped there, and the others ended their
 -- lines. The text of the round was not shown; that of the rounds before it was printed.
-abbrev pub StopsAtExport : Option (List ℕ) → Script → Outside → Outside → Type 0
-StopsAtExport path script before now =
-    GoesToExport (RanRounds path script before now) script before.printed now.printed
+abbrev pub StopsAtExport : Option (List ℕ) → OfLogged → Script → Outside → Outside → Type 0
+StopsAtExport path Logs script before now =
+    GoesToExport (RanRounds path Logs script before now) script before.printed now.printed
 
--- The workload has an export and the outlet failed: at its start, and then nothing was run, or at
--- the export.
+-- The workload has an export and the outlet failed: at its start, and then no round ran, or at the
+-- export.
 pub record FailsExport
-    (path : Option (List ℕ)) (script : Script) (before now : Outside)
+    (path : Option (List ℕ)) (Logs : OfLogged) (script : Script) (before now : Outside)
     : Type 0 where
   pub named : IsSome path
   pub asked : has_export script ≡ true
-  pub failed : IsSilent before now ⊎ StopsAtExport path script before now
+  pub failed : (IsSilent before now × Logs [] 0) ⊎ StopsAtExport path Logs script before now
 
--- How the run of a workload ends.
-abbrev pub ScriptEnds : Option (List ℕ) → Script → Status → Outside → Outside → Type 0
-ScriptEnds path script status.Done before now = IsRun path script before now
-ScriptEnds path script status.Usage before now = ⊥
-ScriptEnds path script status.Refused before now = ⊥
-ScriptEnds path script status.ReadFault before now = ⊥
-ScriptEnds path script status.OutFault before now = IsCutOff path script before now
-ScriptEnds path script status.ExportFault before now = FailsExport path script before now
-ScriptEnds path script status.Memory before now = IsStopped path script before now
-ScriptEnds path script status.NotAStream before now = ⊥
-ScriptEnds path script status.TooLong before now = ⊥
-ScriptEnds path script status.LogFault before now = ⊥
-ScriptEnds path script status.NotALog before now = ⊥
+-- A log is kept, and its disk failed behind a round that ran whole, whose text was not shown; that
+-- of the rounds before it was printed.
+pub record FailsAppend
+    (path : Option (List ℕ)) (keeps : Bool) (Logs : OfLogged) (script : Script)
+    (before now : Outside)
+    : Type 0 where
+  pub kept : keeps ≡ true
+  pub failed : GoesUnshown (RanRounds path Logs script before now) script before.printed now.printed
+
+-- A log is kept, and the commits of a round that ran whole are too long for a record of it: the text
+-- of the round was not shown; that of the rounds before it was printed.
+pub record IsGroupTooLong
+    (path : Option (List ℕ)) (keeps : Bool) (Logs : OfLogged) (script : Script)
+    (before now : Outside)
+    : Type 0 where
+  pub kept : keeps ≡ true
+  pub stopped : GoesTooLong (RanRounds path Logs script before now) script before.printed now.printed
+
+-- How the rounds of a workload end, with this path for its export, and with a log, of which this is
+-- told, or without one.
+abbrev pub RoundsEnd : Option (List ℕ) → Bool → OfLogged → Script → Status → Outside → Outside
+    → Type 0
+RoundsEnd path keeps Logs script status.Done before now = IsRun path Logs script before now
+RoundsEnd path keeps Logs script status.Usage before now = ⊥
+RoundsEnd path keeps Logs script status.Refused before now = ⊥
+RoundsEnd path keeps Logs script status.ReadFault before now = ⊥
+RoundsEnd path keeps Logs script status.OutFault before now = IsCutOff path Logs script before now
+RoundsEnd path keeps Logs script status.ExportFault before now =
+    FailsExport path Logs script before now
+RoundsEnd path keeps Logs script status.Memory before now = IsStopped path Logs script before now
+RoundsEnd path keeps Logs script status.NotAStream before now = ⊥
+RoundsEnd path keeps Logs script status.TooLong before now = ⊥
+RoundsEnd path keeps Logs script status.LogFault before now =
+    FailsAppend path keeps Logs script before now
+RoundsEnd path keeps Logs script status.NotALog before now = ⊥
+RoundsEnd path keeps Logs script status.LogFull before now = ⊥
+RoundsEnd path keeps Logs script status.GroupTooLong before now =
+    IsGroupTooLong path keeps Logs script before now
+
+-- The store was built over the commits that the run begins with, which leave no table more rows than
+-- it takes, and the rounds ended so.
+pub record IsBuilt
+    (path log : Option (List ℕ)) (disk : OfDisk) (script : Script) (ended : Status)
+    (before now : Outside)
+    : Type 0 where
+  pub first : History
+  pub begins : Begins log disk script.tables first
+  pub runnable : IsRunnable (begun_with first script)
+  pub ends : RoundsEnd path (is_some log) (LogKeeps log disk (begun_with first script))
+      (begun_with first script) ended before now
+
+-- There was no memory for the store, behind the opening of its log if one is kept: no round ran,
+-- nothing was printed, and the outlet was not started.
+pub record IsUnbuilt
+    (log : Option (List ℕ)) (disk : OfDisk) (script : Script) (before now : Outside)
+    : Type 0 where
+  pub first : History
+  pub begins : Begins log disk script.tables first
+  pub silent : IsSilent before now
+  pub logs : LogKeeps log disk (begun_with first script) [] 0
+
+-- The log's commits leave a table more rows than it takes, and the line that tells so is printed.
+-- Nothing ran, and the file is as it was.
+pub record IsLogFull
+    (Prints : Option (List ℕ) → Option (List ℕ) → List ℕ → Type 0) (log : Option (List ℕ))
+    (disk : OfDisk) (script : Script) (before now : Outside)
+    : Type 0 where
+  pub kept : is_some log ≡ true
+  pub first : History
+  pub begins : Begins log disk script.tables first
+  pub table : ℕ
+  pub full : IsFirstFull (shape_of (begun_with first script)) table
+  pub only_read : disk.only_read
+  pub printed : Prints before.printed now.printed log_too_large
+  pub outlet : LeavesOutlet before now
+
+-- The log's file is none of the workload's tables, and the line of the place where its bytes leave
+-- the form is printed. Nothing ran, and the file is as it was.
+pub record HasNoLog
+    (Prints : Option (List ℕ) → Option (List ℕ) → List ℕ → Type 0) (log : Option (List ℕ))
+    (disk : OfDisk) (script : Script) (before now : Outside)
+    : Type 0 where
+  pub started : IsStartedFor log disk
+  pub place : ℕ
+  pub none : ForSome disk.file (λ bytes. (bytes ≢ []) × IsNoLog script.tables bytes place)
+  pub only_read : disk.only_read
+  pub printed : Prints before.printed now.printed (log_text script.tables [] (Some place))
+  pub outlet : LeavesOutlet before now
+
+-- There was no memory to open the log: nothing ran, nothing was printed, the outlet was not started,
+-- and the file is as it was.
+pub record IsUnopened (log : Option (List ℕ)) (disk : OfDisk) (before now : Outside) : Type 0 where
+  pub started : IsStartedFor log disk
+  pub only_read : disk.only_read
+  pub silent : IsSilent before now
+
+-- The disk failed where the log was to be made or opened: nothing ran, nothing was printed, and the
+-- outlet was not started. A file that was not empty is as it was.
+pub record FailsLog (log : Option (List ℕ)) (disk : OfDisk) (before now : Outside) : Type 0 where
+  pub started : MayBeStartedFor log disk
+  pub only_read : ForSome disk.file (λ bytes. bytes ≢ [] → disk.only_read)
+  pub silent : IsSilent before now
+
+-- How the run of a workload ends, with this path for its export and this one for its log.
+abbrev pub ScriptEnds : Option (List ℕ) → Option (List ℕ) → OfDisk → Script → Status → Outside
+    → Outside → Type 0
+ScriptEnds path log disk script status.Done before now =
+    IsBuilt path log disk script status.Done before now
+ScriptEnds path log disk script status.Usage before now = ⊥
+ScriptEnds path log disk script status.Refused before now = ⊥
+ScriptEnds path log disk script status.ReadFault before now = ⊥
+ScriptEnds path log disk script status.OutFault before now =
+    HasNoLog AppendsFront log disk script before now
+    ⊎ IsLogFull AppendsFront log disk script before now
+    ⊎ IsBuilt path log disk script status.OutFault before now
+ScriptEnds path log disk script status.ExportFault before now =
+    IsBuilt path log disk script status.ExportFault before now
+ScriptEnds path log disk script status.Memory before now =
+    IsUnopened log disk before now
+    ⊎ IsUnbuilt log disk script before now
+    ⊎ IsBuilt path log disk script status.Memory before now
+ScriptEnds path log disk script status.NotAStream before now = ⊥
+ScriptEnds path log disk script status.TooLong before now = ⊥
+ScriptEnds path log disk script status.LogFault before now =
+    FailsLog log disk before now
+    ⊎ IsBuilt path log disk script status.LogFault before now
+ScriptEnds path log disk script status.NotALog before now =
+    HasNoLog Appends log disk script before now
+ScriptEnds path log disk script status.LogFull before now =
+    IsLogFull Appends log disk script before now
+ScriptEnds path log disk script status.GroupTooLong before now =
+    IsBuilt path log disk script status.GroupTooLong before now
 
 -- The input is a workload, whose run ended so.
-abbrev pub IsRunOf : Option (List ℕ) → Status → Outside → Outside → Type 0
-IsRunOf path ended before now =
-    (script : Script) × Reads script before now × ScriptEnds path script ended before now
+abbrev pub IsRunOf : Option (List ℕ) → Option (List ℕ) → OfDisk → Status → Outside → Outside
+    → Type 0
+IsRunOf path log disk ended before now =
+    (script : Script) × Reads script before now × ScriptEnds path log disk script ended before now
 
--- How the program ends where the words ask for a run, with this path for its export.
-abbrev pub RunEnds : Option (List ℕ) → Status → Outside → Outside → Type 0
-RunEnds path status.Done before now = IsRunOf path status.Done before now
-RunEnds path status.Usage before now = ⊥
-RunEnds path status.Refused before now = IsRefused Appends before now
-RunEnds path status.ReadFault before now = IsSilent before now
-RunEnds path status.OutFault before now = IsRefused AppendsFront before now
-    ⊎ IsRunOf path status.OutFault before now
-RunEnds path status.ExportFault before now = IsRunOf path status.ExportFault before now
-RunEnds path status.Memory before now = IsSilent before now ⊎ IsRunOf path status.Memory before now
-RunEnds path status.NotAStream before now = ⊥
-RunEnds path status.TooLong before now = ConsumesAtLeast before.left now.left (2 ^ 32)
-    × IsSilent before now
-RunEnds path status.LogFault before now = ⊥
-RunEnds path status.NotALog before now = ⊥
+-- How the program ends where the words ask for a run, with this path for its export and this one
+-- for its log.
+abbrev pub RunEnds : Option (List ℕ) → Option (List ℕ) → OfDisk → Status → Outside → Outside
+    → Type 0
+RunEnds path log disk status.Done before now = IsRunOf path log disk status.Done before now
+RunEnds path log disk status.Usage before now = ⊥
+RunEnds path log disk status.Refused before now = IsLeft disk × IsRefused Appends before now
+RunEnds path log disk status.ReadFault before now = IsLeft disk × IsSilent before now
+RunEnds path log disk status.OutFault before now =
+    (IsLeft disk × IsRefused AppendsFront before now)
+    ⊎ IsRunOf path log disk status.OutFault before now
+RunEnds path log disk status.ExportFault before now =
+    IsRunOf path log disk status.ExportFault before now
+RunEnds path log disk status.Memory before now =
+    (IsLeft disk × IsSilent before now)
+    ⊎ IsRunOf path log disk status.Memory before now
+RunEnds path log disk status.NotAStream before now = ⊥
+RunEnds path log disk status.TooLong before now = IsLeft disk
+    × ConsumesAtLeast before.left now.left (2 ^ 32) × IsSilent before now
+RunEnds path log disk status.LogFault before now = IsRunOf path log disk status.LogFault before now
+RunEnds path log disk status.NotALog before now = IsRunOf path log disk status.NotALog before now
+RunEnds path log disk status.LogFull before now = IsRunOf path log disk status.LogFull before now
+RunEnds path log disk status.GroupTooLong before now =
+    IsRunOf path log disk status.GroupTooLong before now
 
 -- ---- a stream that is shown
 
@@ -285,6 +492,8 @@ ShowEnds status.TooLong before now = (shown : List ℕ) × (2 ^ 32 ≤ length sh
     × IsShownSoFar shown [] before now
 ShowEnds status.LogFault before now = ⊥
 ShowEnds status.NotALog before now = ⊥
+ShowEnds status.LogFull before now = ⊥
+ShowEnds status.GroupTooLong before now = ⊥
 
 -- ---- an output that is checked
 
@@ -332,6 +541,8 @@ CheckEnds status.TooLong before now =
     ConsumesAtLeast before.left now.left (2 ^ 32) × IsSilent before now
 CheckEnds status.LogFault before now = ⊥
 CheckEnds status.NotALog before now = ⊥
+CheckEnds status.LogFull before now = ⊥
+CheckEnds status.GroupTooLong before now = ⊥
 
 -- ---- a generated workload
 
@@ -361,26 +572,10 @@ BenchEnds seed size status.NotAStream before now = ⊥
 BenchEnds seed size status.TooLong before now = ⊥
 BenchEnds seed size status.LogFault before now = ⊥
 BenchEnds seed size status.NotALog before now = ⊥
+BenchEnds seed size status.LogFull before now = ⊥
+BenchEnds seed size status.GroupTooLong before now = ⊥
 
--- ---- a log
-
--- What is told of the disk: the bytes of its file, and the names that it was started with, before
--- and now. No bytes change.
-pub record OfDisk : Type 0 where
-  pub file : Option (List ℕ)
-  pub before : Option (List (List ℕ))
-  pub now : Option (List (List ℕ))
-
-abbrev pub of_disk : Option (List ℕ) → Option (List (List ℕ)) → Option (List (List ℕ)) → OfDisk
-of_disk file before now = record { file = file; before = before; now = now }
-
--- the disk was not started
-abbrev pub IsUnstarted : OfDisk → Type 0
-IsUnstarted disk = disk.now ≡ disk.before
-
--- the disk was started once, with this name
-abbrev pub IsStartedWith : List ℕ → OfDisk → Type 0
-IsStartedWith name disk = disk.now ≡ option_map (λ names. names ++ name ∷ []) disk.before
+-- ---- a log that is told
 
 -- the place where the bytes leave the form of a log, if they do
 abbrev pub broken_at : LogEnd → Option ℕ
@@ -409,10 +604,6 @@ pub record IsLogTold
   pub told : PrintsLog Prints script.tables disk.file end before.printed now.printed
   pub outlet : LeavesOutlet before now
 
--- the disk was started with the path, or was not
-abbrev pub MayBeStarted : List ℕ → OfDisk → Type 0
-MayBeStarted path disk = IsUnstarted disk ⊎ IsStartedWith path disk
-
 -- How the program ends where the words ask for the log at a path.
 abbrev pub LogEnds : List ℕ → OfDisk → Status → Outside → Outside → Type 0
 LogEnds path disk status.Done before now =
@@ -432,6 +623,8 @@ LogEnds path disk status.LogFault before now =
     (script : Script) × Reads script before now × MayBeStarted path disk × IsSilent before now
 LogEnds path disk status.NotALog before now =
     (place : ℕ) × IsLogTold Appends path disk (log_end.Broken place) before now
+LogEnds path disk status.LogFull before now = ⊥
+LogEnds path disk status.GroupTooLong before now = ⊥
 
 -- How the program ends where the words ask for a text of its own: what it does, or its version.
 -- Before they are judged there may be no memory.
@@ -447,6 +640,8 @@ TextEnds text status.NotAStream before now = ⊥
 TextEnds text status.TooLong before now = ⊥
 TextEnds text status.LogFault before now = ⊥
 TextEnds text status.NotALog before now = ⊥
+TextEnds text status.LogFull before now = ⊥
+TextEnds text status.GroupTooLong before now = ⊥
 
 -- How the program ends where the words ask for nothing that it does: the line that tells how it is
 -- used is printed.
@@ -462,11 +657,14 @@ UsageEnds status.NotAStream before now = ⊥
 UsageEnds status.TooLong before now = ⊥
 UsageEnds status.LogFault before now = ⊥
 UsageEnds status.NotALog before now = ⊥
+UsageEnds status.LogFull before now = ⊥
+UsageEnds status.GroupTooLong before now = ⊥
 
 -- How the work ends that the words ask for.
 abbrev pub WorkEnds : Option Asked → OfDisk → Status → Outside → Outside → Type 0
 WorkEnds None disk ended before now = UsageEnds ended before now
-WorkEnds (Some (ToRun path)) disk ended before now = RunEnds path ended before now
+WorkEnds (Some (ToRun path log)) disk ended before now =
+    RunEnds path log disk ended before now
 WorkEnds (Some ToShow) disk ended before now = ShowEnds ended before now
 WorkEnds (Some ToCheck) disk ended before now = CheckEnds ended before now
 WorkEnds (Some (ToBench seed size)) disk ended before now = BenchEnds seed size ended before now
@@ -474,16 +672,27 @@ WorkEnds (Some (ToLog path)) disk ended before now = LogEnds path disk ended bef
 WorkEnds (Some ToHelp) disk ended before now = TextEnds help_text ended before now
 WorkEnds (Some ToVersion) disk ended before now = TextEnds version_line ended before now
 
--- whether the words ask for a log: all other work leaves the disk alone
+-- whether the words ask to be told a log
 abbrev pub asks_log : Option Asked → Bool
 asks_log None = false
-asks_log (Some (ToRun path)) = false
+asks_log (Some (ToRun path log)) = false
 asks_log (Some ToShow) = false
 asks_log (Some ToCheck) = false
 asks_log (Some (ToBench seed size)) = false
 asks_log (Some (ToLog path)) = true
 asks_log (Some ToHelp) = false
 asks_log (Some ToVersion) = false
+
+-- whether the words ask for a run whose commits are kept in a log
+abbrev pub keeps_log : Option Asked → Bool
+keeps_log None = false
+keeps_log (Some (ToRun path log)) = is_some log
+keeps_log (Some ToShow) = false
+keeps_log (Some ToCheck) = false
+keeps_log (Some (ToBench seed size)) = false
+keeps_log (Some (ToLog path)) = false
+keeps_log (Some ToHelp) = false
+keeps_log (Some ToVersion) = false
 
 -- whether a log was read, where the words ask for one
 abbrev pub has_read : Status → Bool
@@ -498,6 +707,8 @@ has_read status.NotAStream = false
 has_read status.TooLong = false
 has_read status.LogFault = false
 has_read status.NotALog = true
+has_read status.LogFull = false
+has_read status.GroupTooLong = false
 
 -- Where the words ask for a log that was read, a crash leaves just the bytes that were.
 abbrev pub StaysAsRead : Option Asked → Status → Option (List ℕ) → (List ℕ → Type 0) → Type 0
@@ -519,6 +730,8 @@ is_flushed status.NotAStream = true
 is_flushed status.TooLong = true
 is_flushed status.LogFault = false
 is_flushed status.NotALog = true
+is_flushed status.LogFull = true
+is_flushed status.GroupTooLong = true
 
 -- The work ended, with a status that tells of no failed call, and the flush behind it failed: all
 -- that was due is printed, and how much of it was handed on is not told.

@@ -47,6 +47,8 @@ PieceEnds before fed piece status.NotAStream printed =
 PieceEnds before fed piece status.TooLong printed = ⊥
 PieceEnds before fed piece status.LogFault printed = ⊥
 PieceEnds before fed piece status.NotALog printed = ⊥
+PieceEnds before fed piece status.LogFull printed = ⊥
+PieceEnds before fed piece status.GroupTooLong printed = ⊥
 
 -- What is printed where the input ends.
 abbrev pub InputEnds : Option (List ℕ) → List ℕ → Status → Option (List ℕ) → Type 0
@@ -64,6 +66,8 @@ InputEnds before fed status.NotAStream printed =
 InputEnds before fed status.TooLong printed = ⊥
 InputEnds before fed status.LogFault printed = ⊥
 InputEnds before fed status.NotALog printed = ⊥
+InputEnds before fed status.LogFull printed = ⊥
+InputEnds before fed status.GroupTooLong printed = ⊥
 
 -- how the program ends with a piece, if it does, by how far the stream has come
 abbrev pub ended_with : Stand → Option Status

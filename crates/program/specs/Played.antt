@@ -1,17 +1,18 @@
 -- How the calls within a run end.
-use Rattle.std.specs.Prelude.{◌≡◌, ℕ, List, Option}
+use Rattle.std.specs.Prelude.{◌≡◌, ◌⊎◌, ℕ, List, Option}
 use Rattle.std.specs.Io.KnownBytes.{Appends}
 use Rattle.byte_ports.specs.Calls.{AppendsFront}
 use Rattle.script_text.specs.declared.fault.ScriptFault.{ScriptFault}
 use Rattle.script_text.specs.declared.fault.ScriptFault.TheVariants as script_fault
-use Rattle.store_rounds.specs.Workloads.{GoesCutOff, GoesStopped, GoesToExport, GoesWhole, OfRounds}
+use Rattle.store_rounds.specs.Workloads.{GoesCutOff, GoesStopped, GoesToExport, GoesTooLong}
+use Rattle.store_rounds.specs.Workloads.{GoesUnshown, GoesWhole, OfRounds}
 use Rattle.workload_spec.specs.Grammar.{refused_text}
 use Rattle.workload_spec.specs.declared.script.Script.{Script}
 use Rattle.program.specs.declared.status.Status.{Status}
 use Rattle.program.specs.declared.status.Status.TheVariants as status
 
--- How the rounds of a workload end, where `Goes asked ran text` says that rounds of these lines
--- ran, as these rounds, and had this text.
+-- How the rounds of a workload end, where `Goes asked ran printed text` says that rounds of these
+-- lines ran, as these rounds, so many of which were printed, and had this text.
 abbrev pub PlayEnds : OfRounds → Script → Status → Option (List ℕ) → Option (List ℕ) → Type 0
 PlayEnds Goes script status.Done before now = GoesWhole Goes script before now
 PlayEnds Goes script status.Usage before now = ⊥
@@ -22,8 +23,10 @@ PlayEnds Goes script status.ExportFault before now = GoesToExport Goes script be
 PlayEnds Goes script status.Memory before now = GoesStopped Goes script before now
 PlayEnds Goes script status.NotAStream before now = ⊥
 PlayEnds Goes script status.TooLong before now = ⊥
-PlayEnds Goes script status.LogFault before now = ⊥
+PlayEnds Goes script status.LogFault before now = GoesUnshown Goes script before now
 PlayEnds Goes script status.NotALog before now = ⊥
+PlayEnds Goes script status.LogFull before now = ⊥
+PlayEnds Goes script status.GroupTooLong before now = GoesTooLong Goes script before now
 
 -- The line of a refusal is printed: the bad line and its cause. Want of memory is told by no line.
 abbrev pub TellsFault : (Option (List ℕ) → Option (List ℕ) → List ℕ → Type 0) → ScriptFault
@@ -45,3 +48,11 @@ RefusalEnds told status.NotAStream before now = ⊥
 RefusalEnds told status.TooLong before now = ⊥
 RefusalEnds told status.LogFault before now = ⊥
 RefusalEnds told status.NotALog before now = ⊥
+RefusalEnds told status.LogFull before now = ⊥
+RefusalEnds told status.GroupTooLong before now = ⊥
+
+-- How the printing of a text ends behind which the program ends so.
+abbrev pub LineEnds : Status → List ℕ → Status → Option (List ℕ) → Option (List ℕ) → Type 0
+LineEnds told text ended before now = ((ended ≡ told) × Appends before now text)
+    ⊎ ((ended ≡ status.OutFault) × AppendsFront before now text)
+    ⊎ ((ended ≡ status.Memory) × (now ≡ before))

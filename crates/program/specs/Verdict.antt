@@ -23,3 +23,5 @@ VerdictEnds script output status.NotAStream before now = ⊥
 VerdictEnds script output status.TooLong before now = ⊥
 VerdictEnds script output status.LogFault before now = ⊥
 VerdictEnds script output status.NotALog before now = ⊥
+VerdictEnds script output status.LogFull before now = ⊥
+VerdictEnds script output status.GroupTooLong before now = ⊥

@@ -17,11 +17,12 @@ use Rattle.clap.specs.declared.error.kind.ErrorKind.TheVariants as kind
 use Rattle.program.specs.declared.words.Work.{Work}
 use Rattle.program.specs.declared.words.Work.TheVariants as work
 
--- What the words ask for: to run a workload, and to export to a path if there is one; to show a
--- stream; to check an output; to run the workload that a seed and a size generate; to tell what the
--- log at a path holds; to tell what the program does; to tell its version.
+-- What the words ask for: to run a workload, to export to a path if there is one, and to keep its
+-- commits in the log at a path if there is one; to show a stream; to check an output; to run the
+-- workload that a seed and a size generate; to tell what the log at a path holds; to tell what the
+-- program does; to tell its version.
 pub data Asked : Type 0 where
-  ToRun : Option Text → Asked
+  ToRun : Option Text → Option Text → Asked
   ToShow : Asked
   ToCheck : Asked
   ToBench : ℕ → ℕ → Asked
@@ -29,11 +30,14 @@ pub data Asked : Type 0 where
   ToHelp : Asked
   ToVersion : Asked
 
--- The program's command: `run [--export PATH]`, `show`, `check`, `bench SEED SIZE` with a seed
--- of 64 bits and a size of 1 to 4,096, `log PATH`, and `help [COMMAND]`. It and each of these take
--- `--help` and `-h`, it itself `--version` and `-V`.
+-- The program's command: `run [--export PATH] [--log PATH]`, `show`, `check`, `bench SEED SIZE` with
+-- a seed of 64 bits and a size of 1 to 4,096, `log PATH`, and `help [COMMAND]`. It and each of these
+-- take `--help` and `-h`, it itself `--version` and `-V`.
 abbrev pub export_rule : Rule
 export_rule = record (new_rule (codes "export")) { long = Some (codes "export") }
+
+abbrev pub log_rule : Rule
+log_rule = record (new_rule (codes "log")) { long = Some (codes "log") }
 
 abbrev pub seed_rule : Rule
 seed_rule = record (new_rule (codes "seed")) {
@@ -51,7 +55,7 @@ abbrev pub path_rule : Rule
 path_rule = record (new_rule (codes "path")) { required = true }
 
 abbrev pub run_app : App
-run_app = with_rule (new_app (codes "run")) export_rule
+run_app = with_rule (with_rule (new_app (codes "run")) export_rule) log_rule
 
 abbrev pub bench_app : App
 bench_app = with_rule (with_rule (new_app (codes "bench")) seed_rule) size_rule
@@ -96,6 +100,10 @@ number_in low high word =
 abbrev pub number_at : Text → ℕ → ℕ → List Row → Option ℕ
 number_at name low high rows = option_and_then (number_in low high) (first_of name rows)
 
+-- the path of an export and that of a log, of which the words name each or not
+abbrev pub run_asks : List Row → Option Asked
+run_asks rows = Some (ToRun (first_of (codes "export") rows) (first_of (codes "log") rows))
+
 -- a seed of 64 bits, and a size of 1 to 4,096
 abbrev pub bench_asks : List Row → Option Asked
 bench_asks rows = option_and_then
@@ -120,7 +128,7 @@ help_asks rows =
 -- what a subcommand asks for, with what its words give
 abbrev pub command_asks : Text → List Row → Option Asked
 command_asks name rows =
-    if bytes_eq name (codes "run") then Some (ToRun (first_of (codes "export") rows))
+    if bytes_eq name (codes "run") then run_asks rows
     else (if bytes_eq name (codes "show") then Some ToShow
     else (if bytes_eq name (codes "check") then Some ToCheck
     else (if bytes_eq name (codes "bench") then bench_asks rows
@@ -165,7 +173,7 @@ asked_by words = unless_stopped (fault_of mainline_app words)
 
 -- what a work is
 abbrev pub meaning : Work → Asked
-meaning (work.Run path) = ToRun (option_map (λ p. p.now) path)
+meaning (work.Run path log) = ToRun (option_map (λ p. p.now) path) (option_map (λ p. p.now) log)
 meaning work.Show = ToShow
 meaning work.Check = ToCheck
 meaning (work.Bench seed size) = ToBench seed size
@@ -175,7 +183,7 @@ meaning work.Version = ToVersion
 
 -- a generated workload has no more rounds of writes than these
 abbrev pub IsSized : Work → Type 0
-IsSized (work.Run path) = Unit {0}
+IsSized (work.Run path log) = Unit {0}
 IsSized work.Show = Unit {0}
 IsSized work.Check = Unit {0}
 IsSized (work.Bench seed size) = size ≤ most_size
@@ -185,7 +193,9 @@ IsSized work.Version = Unit {0}
 
 -- the line that tells how the program is used
 abbrev pub usage_line : List ℕ
-usage_line = codes "usage: mainline run [--export PATH] | show | check | bench SEED SIZE | log PATH\n"
+usage_line =
+    codes "usage: mainline run [--export PATH] [--log PATH] | show | check | bench SEED SIZE"
+    ++ codes " | log PATH\n"
 
 -- the name and the version of the program
 abbrev pub version_line : List ℕ
@@ -196,9 +206,12 @@ abbrev pub help_text : List ℕ
 help_text =
     codes "mainline: a transactional storage engine in memory, whose tables stand in Arrow blocks\n"
     ++ codes "\n"
-    ++ codes "usage: mainline run [--export PATH] | show | check | bench SEED SIZE | log PATH\n"
+    ++ codes "usage: mainline run [--export PATH] [--log PATH] | show | check | bench SEED SIZE"
+    ++ codes " | log PATH\n"
     ++ codes "\n"
-    ++ codes "  run [--export PATH]  run a workload, print its replies, export to a file\n"
+    ++ codes "  run                  run a workload, print its replies\n"
+    ++ codes "      [--export PATH]  and export to a file\n"
+    ++ codes "      [--log PATH]     and keep its commits in a log, and go on from those there\n"
     ++ codes "  show                 print the columns and the rows of an Arrow stream\n"
     ++ codes "  check                say whether snapshot isolation explains an output\n"
     ++ codes "  bench SEED SIZE      run a generated workload, print what is counted of it\n"

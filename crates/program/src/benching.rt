@@ -11,19 +11,21 @@ use bench_script::generate;
 use bench_script::laws::{the_text_is_short, what_is_generated_is_a_workload};
 use bench_spec::Counts;
 use byte_ports::{Failed, Gate, PureOutlet, Sink, write_all};
+use commit_log::Disk;
 use std::alloc::{AllocError, Global};
 use std::sync::Wait;
 use std::thread::Threads;
-use store_rounds::run_workload;
+use store_rounds::PreparedRun;
 
 /// Runs the workload that a seed and a size generate, and prints what is counted of its replies.
 /// Its output is kept, and its export dropped.
-pub(crate) fn bench<R: Wait + Threads + Sync, O: Sink, G: Gate + Sync>(
+pub(crate) fn bench<R: Wait + Threads + Sync, O: Sink, D: Disk, G: Gate + Sync>(
     rt: &R,
     alloc: Global,
     seed: u64,
     size: u32,
     out: &mut O,
+    disk: &mut D,
     gate: &G,
 ) -> Status
     requires { size ≤ most_size }
@@ -34,8 +36,9 @@ pub(crate) fn bench<R: Wait + Threads + Sync, O: Sink, G: Gate + Sync>(
     ensures read_faults { result ≢ Status.ReadFault }
     ensures out_faults { TellsFaults Status.OutFault result (O.faults out.old) (O.faults out.new) }
     ensures export_faults { result ≢ Status.ExportFault }
+    ensures left { disk.new ≡ disk.old }
 {
-    let Ok(Some(counts)) = run_generated(rt, alloc, seed, size, gate) else {
+    let Ok(Some(counts)) = run_generated(rt, alloc, seed, size, disk, gate) else {
         return Status::Memory;
     };
     let mut text = Vec::new(alloc);
@@ -50,21 +53,24 @@ pub(crate) fn bench<R: Wait + Threads + Sync, O: Sink, G: Gate + Sync>(
 
 /// Runs the workload, and counts its replies; nothing is counted where one of them was refused
 /// memory.
-fn run_generated<R: Wait + Threads + Sync, G: Gate + Sync>(
+fn run_generated<R: Wait + Threads + Sync, D: Disk, G: Gate + Sync>(
     rt: &R,
     alloc: Global,
     seed: u64,
     size: u32,
+    disk: &mut D,
     gate: &G,
 ) -> Result<Option<Counts>, AllocError>
     requires { size ≤ most_size }
-    ensures { IfOk result (λ told. IfSome told (λ counts. RanGenerated seed size counts)) }
+    ensures ran { IfOk result (λ told. IfSome told (λ counts. RanGenerated seed size counts)) }
+    ensures left { disk.new ≡ disk.old }
 {
     what_is_generated_is_a_workload();
     the_text_is_short();
     let script = generate(alloc, seed, size)?;
     let mut output = KeptOutput::new(alloc);
-    let Ok(()) = run_workload(rt, alloc, gate, script, &mut output, &mut PureOutlet) else {
+    let run = PreparedRun::build(alloc, script)?;
+    let Ok(()) = run.run(rt, alloc, gate, None, disk, &mut output, &mut PureOutlet) else {
         return Err(AllocError);
     };
     // The run has used the script up; the replies are read by another one.

@@ -4,9 +4,11 @@
 
 mod benching;
 mod checking;
+mod log_opening;
 mod log_telling;
 mod output;
 mod performing;
+mod running;
 mod showing;
 mod status;
 mod texts;

@@ -28,7 +28,7 @@ pub(crate) fn tell_log<S: Source, O: Sink, D: Disk>(
     disk: &mut D,
 ) -> Status
     ensures ends { (exported : Option (List ℕ)) (started : Option (List (List ℕ)))
-        → LogEnds path.now (of_disk (D.told disk.old) (D.started disk.old) (D.started disk.new))
+        → LogEnds path.now (of_disk D.told D.started D.may_leave D.moment D.left_since disk.old disk.new)
         result
         (outside (S.left source.old) (O.written out.old) exported started)
         (outside (S.left source.new) (O.written out.new) exported started) }
@@ -63,7 +63,7 @@ fn print_log<O: Sink, D: Disk>(
     disk: &mut D,
 ) -> Status
     ensures ends { LogToldEnds tables.now path.now
-        (of_disk (D.told disk.old) (D.started disk.old) (D.started disk.new)) result
+        (of_disk D.told D.started D.may_leave D.moment D.left_since disk.old disk.new) result
         (O.written out.old) (O.written out.new) }
     ensures out_faults { TellsFaults Status.OutFault result (O.faults out.old) (O.faults out.new) }
     ensures log_faults { TellsFaults Status.LogFault result (D.faults disk.old)
@@ -115,9 +115,9 @@ fn read_at<D: Disk>(
         (λ bytes. ReadsAs tables.now bytes reading.commits reading.end)) }
     ensures stays { OnOk result (ForSome (D.told disk.old) (LeavesJust (D.may_leave disk.new))) }
     ensures started { OnOk result (IsStartedWith path.now
-        (of_disk (D.told disk.old) (D.started disk.old) (D.started disk.new))) }
+        (of_disk D.told D.started D.may_leave D.moment D.left_since disk.old disk.new)) }
     ensures left { MayBeStarted path.now
-        (of_disk (D.told disk.old) (D.started disk.old) (D.started disk.new)) }
+        (of_disk D.told D.started D.may_leave D.moment D.left_since disk.old disk.new) }
     ensures reads { OnlyReads D.told D.may_leave D.moment D.left_since disk.old disk.new }
     ensures cause { CountsDisk (D.faults disk.old) (D.faults disk.new) result }
 {

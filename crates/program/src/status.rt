@@ -22,10 +22,14 @@ pub enum Status {
     NotAStream = 7,
     /// 2^32 bytes were read without the end of the input.
     TooLong = 8,
-    /// The log could not be opened or read.
+    /// The log could not be opened, read or added to.
     LogFault = 9,
     /// The file is no log.
     NotALog = 10,
+    /// The log leaves a table more rows than it takes.
+    LogFull = 11,
+    /// The commits of a round are too long for a record of the log.
+    GroupTooLong = 12,
 }
 
 /// The program ends with the number of the status.

@@ -8,15 +8,19 @@ use byte_ports::{Failed, Sink, write_all};
 
 /// How the program is used.
 const USAGE: &[u8] =
-    b"usage: mainline run [--export PATH] | show | check | bench SEED SIZE | log PATH\n";
+    b"usage: mainline run [--export PATH] [--log PATH] | show | check | bench SEED SIZE \
+    | log PATH\n";
 
 /// What the program does, each command with a line.
 const HELP: &[u8] =
     b"mainline: a transactional storage engine in memory, whose tables stand in Arrow blocks\n\
     \n\
-    usage: mainline run [--export PATH] | show | check | bench SEED SIZE | log PATH\n\
+    usage: mainline run [--export PATH] [--log PATH] | show | check | bench SEED SIZE \
+    | log PATH\n\
     \n\
-    \x20 run [--export PATH]  run a workload, print its replies, export to a file\n\
+    \x20 run                  run a workload, print its replies\n\
+    \x20     [--export PATH]  and export to a file\n\
+    \x20     [--log PATH]     and keep its commits in a log, and go on from those there\n\
     \x20 show                 print the columns and the rows of an Arrow stream\n\
     \x20 check                say whether snapshot isolation explains an output\n\
     \x20 bench SEED SIZE      run a generated workload, print what is counted of it\n\

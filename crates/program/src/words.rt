@@ -7,7 +7,7 @@ ghost use Rattle.clap.specs.declared.builder.command.Command.TheViews.{out-Comma
 ghost use Rattle.program.specs.Words.{IsSized, asked_by, bench_app, bench_asks, command_asks};
 ghost use Rattle.program.specs.Words.{help_app, help_asks, is_command, log_app, log_asks};
 ghost use Rattle.program.specs.Words.{mainline_app, meaning, named_app, number_at, number_in};
-ghost use Rattle.program.specs.Words.{run_app, stopped_asks};
+ghost use Rattle.program.specs.Words.{run_app, run_asks, stopped_asks};
 
 use clap::error::ErrorKind;
 use clap::{Arg, ArgMatches, Command, Error};
@@ -19,14 +19,21 @@ const MOST_SIZE: u64 = 4096;
 /// What the words ask for.
 #[derive(Clone, Copy)]
 pub enum Work<'a> {
-    /// To run a workload, and to export to this path; without one the export is dropped.
-    Run(Option<&'a str>),
+    /// To run a workload, to export to a path, and to keep its commits in the log at a path. Without
+    /// the first the export is dropped, and without the second no log is kept.
+    Run {
+        export: Option<&'a str>,
+        log: Option<&'a str>,
+    },
     /// To show a stream.
     Show,
     /// To check an output of a workload.
     Check,
     /// To run the workload that a seed and a size generate.
-    Bench { seed: u64, size: u32 },
+    Bench {
+        seed: u64,
+        size: u32,
+    },
     /// To tell what the log at this path holds.
     Log(&'a str),
     /// To tell what the program does.
@@ -89,7 +96,7 @@ fn named<'a>(name: &str, matches: &ArgMatches<'a>) -> Option<Work<'a>>
     ensures sized { IfSome result IsSized }
 {
     if name == "run" {
-        Some(Work::Run(matches.get_str("export")))
+        Some(run_of(matches))
     } else if name == "show" {
         Some(Work::Show)
     } else if name == "check" {
@@ -102,6 +109,17 @@ fn named<'a>(name: &str, matches: &ArgMatches<'a>) -> Option<Work<'a>>
         help_of(matches)
     } else {
         None
+    }
+}
+
+/// The paths that the words give.
+fn run_of<'a>(matches: &ArgMatches<'a>) -> Work<'a>
+    ensures asked { Some (meaning result) ≡ run_asks (rows_of (found_of matches.now)) }
+    ensures sized { IsSized result }
+{
+    Work::Run {
+        export: matches.get_str("export"),
+        log: matches.get_str("log"),
     }
 }
 
@@ -212,12 +230,15 @@ fn help_command<'a>(alloc: Global) -> Result<Command<'a>, AllocError>
     Command::new(alloc, "help").arg(Arg::new(alloc, "command"))
 }
 
-/// The command to run a workload, with the path of its export if it is given one.
+/// The command to run a workload, with the path of its export and that of its log if it is given
+/// them.
 fn run_command<'a>(alloc: Global) -> Result<Command<'a>, AllocError>
     ensures app { IfOk result (λ command. app_of command ≡ run_app) }
     ensures plain { IfOk result (λ command. (out-Command command).has_globals ≡ false) }
 {
-    Command::new(alloc, "run").arg(Arg::new(alloc, "export").long("export"))
+    let export = Arg::new(alloc, "export").long("export");
+    let log = Arg::new(alloc, "log").long("log");
+    Command::new(alloc, "run").arg(export)?.arg(log)
 }
 
 /// The command to run a generated workload of a seed and a size.

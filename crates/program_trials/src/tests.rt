@@ -2,11 +2,11 @@
 mod checked;
 mod gated;
 mod hostile;
+mod kept;
 mod kinds;
 mod logs;
 
-use crate::tests::gated::{Noted, NotingGate, NotingOutlet, NotingSink};
-use byte_ports::{ListOutlet, ListSink, ListSource};
+use byte_ports::{Gate, ListOutlet, ListSink, ListSource, OpenGate, Outlet, Sink};
 use disk_ports::MemoryDisk;
 use program::{Status, perform};
 use std::alloc::{AllocError, Global};
@@ -21,7 +21,7 @@ const HEAD: &str = "store 1\ntable b key:i64 slots 8 blocks 1\nsessions 1\nworke
 const RUN: [&str; 4] = ["mainline", "run", "--export", "e"];
 
 const USAGE: &str =
-    "usage: mainline run [--export PATH] | show | check | bench SEED SIZE | log PATH\n";
+    "usage: mainline run [--export PATH] [--log PATH] | show | check | bench SEED SIZE | log PATH\n";
 
 const EXPORT: &str = "1 begin\n1 export b\n";
 
@@ -237,6 +237,21 @@ struct Ended {
     outlet: ListOutlet,
 }
 
+/// Does what words ask for. It stands alone, so that what is said of it is proved once.
+fn ask<R: Wait + Threads + Sync, O: Sink, X: Outlet + Send, G: Gate + Sync>(
+    rt: &R,
+    alloc: Global,
+    words: &[&str],
+    source: &mut ListSource,
+    out: &mut O,
+    outlet: &mut X,
+    disk: &mut MemoryDisk,
+    gate: &G,
+) -> Result<Status, AllocError> {
+    let words = owned(alloc, words)?;
+    Ok(perform(rt, alloc, words, source, out, outlet, disk, gate))
+}
+
 fn run<R: Wait + Threads + Sync>(
     rt: &R,
     alloc: Global,
@@ -244,17 +259,11 @@ fn run<R: Wait + Threads + Sync>(
     input: &[u8],
     failing: Failing<'_>,
 ) -> Result<Ended, AllocError> {
-    let noted = Noted::new(0);
     let mut source = ListSource::new(alloc, input, failing.source)?;
-    let mut out = NotingSink {
-        sink: ListSink::new(alloc, failing.out)?,
-        noted: &noted,
-    };
-    let mut outlet = NotingOutlet::new(ListOutlet::new(alloc, failing.outlet)?, &noted);
-    let words = owned(alloc, words)?;
+    let mut out = ListSink::new(alloc, failing.out)?;
+    let mut outlet = ListOutlet::new(alloc, failing.outlet)?;
     let mut disk = MemoryDisk::new(alloc, &[], &[])?;
-    let gate = NotingGate { noted: &noted };
-    let status = perform(
+    let status = ask(
         rt,
         alloc,
         words,
@@ -262,33 +271,47 @@ fn run<R: Wait + Threads + Sync>(
         &mut out,
         &mut outlet,
         &mut disk,
-        &gate,
-    );
+        &OpenGate,
+    )?;
     Ok(Ended {
         status,
-        out: out.sink,
-        outlet: outlet.outlet,
+        out,
+        outlet,
     })
+}
+
+/// The run of a case.
+fn run_case<R: Wait + Threads + Sync>(
+    rt: &R,
+    alloc: Global,
+    case: &Fault,
+) -> Result<Ended, AllocError> {
+    let input = workload(alloc, case.commands)?;
+    run(
+        rt,
+        alloc,
+        case.words,
+        input.as_str().as_bytes(),
+        case.failing,
+    )
+}
+
+/// A run ended as its case says.
+fn check_ended<R: Abort>(rt: &R, at: usize, case: &Fault, ended: &Ended) {
+    assert_eq!(rt; ended.status, case.status, "case {at}");
+    assert_eq!(rt; ended.out.written(), case.printed.as_bytes(), "case {at}");
+    assert_eq!(rt; ended.outlet.started().len(), case.started, "case {at}");
+    for name in ended.outlet.started() {
+        assert_eq!(rt; name.as_str(), "e", "case {at}");
+    }
+    assert_eq!(rt; ended.outlet.written().len(), case.exported, "case {at}");
 }
 
 #[test]
 fn faults_are_told(rt: HostRuntime) -> Result<(), Fail> {
-    for (at, fault) in FAULTS.iter().enumerate() {
-        let input = workload(rt.alloc(), fault.commands)?;
-        let ended = run(
-            &rt,
-            rt.alloc(),
-            fault.words,
-            input.as_str().as_bytes(),
-            fault.failing,
-        )?;
-        assert_eq!(rt; ended.status, fault.status, "case {at}");
-        assert_eq!(rt; ended.out.written(), fault.printed.as_bytes(), "case {at}");
-        assert_eq!(rt; ended.outlet.started().len(), fault.started, "case {at}");
-        for name in ended.outlet.started() {
-            assert_eq!(rt; name.as_str(), "e", "case {at}");
-        }
-        assert_eq!(rt; ended.outlet.written().len(), fault.exported, "case {at}");
+    for (at, case) in FAULTS.iter().enumerate() {
+        let ended = run_case(&rt, rt.alloc(), case)?;
+        check_ended(&rt, at, case, &ended);
     }
     Ok(())
 }

@@ -3,10 +3,10 @@
 
 ghost use Rattle.std.specs.Prelude.{Some, refl};
 
-use super::{RUN, owned};
+use super::{RUN, ask};
 use byte_ports::{Failed, Gate, ListOutlet, ListSink, ListSource, Outlet, Sink};
 use disk_ports::MemoryDisk;
-use program::{Status, perform};
+use program::Status;
 use std::alloc::{AllocError, Global};
 use std::sync::Wait;
 use std::sync::atomic::{AtomicU32, AtomicU64, Ordering};
@@ -29,7 +29,7 @@ const MOST_LOADS: u32 = 1 << 28;
 /// for the others in vain, how many bytes were printed, and how many when a first command was last
 /// let go on.
 #[derive(Drop)]
-pub(super) struct Noted {
+struct Noted {
     passed: AtomicU32,
     turned: AtomicU32,
     come: AtomicU32,
@@ -41,7 +41,7 @@ pub(super) struct Noted {
 }
 
 impl Noted {
-    pub(super) fn new(at_work: u32) -> Noted {
+    fn new(at_work: u32) -> Noted {
         Noted {
             passed: AtomicU32::new(0),
             turned: AtomicU32::new(0),
@@ -88,8 +88,8 @@ impl Noted {
 
 /// The gate that notes who passes it, and holds those who wait for each other.
 #[derive(Drop)]
-pub(super) struct NotingGate<'a> {
-    pub(super) noted: &'a Noted,
+struct NotingGate<'a> {
+    noted: &'a Noted,
 }
 
 impl<'a> Gate for NotingGate<'a> {
@@ -102,9 +102,9 @@ impl<'a> Gate for NotingGate<'a> {
 
 /// An output that notes how many bytes it took.
 #[derive(Drop)]
-pub(super) struct NotingSink<'a> {
-    pub(super) sink: ListSink,
-    pub(super) noted: &'a Noted,
+struct NotingSink<'a> {
+    sink: ListSink,
+    noted: &'a Noted,
 }
 
 impl<'a> Sink for NotingSink<'a> {
@@ -130,15 +130,15 @@ impl<'a> Sink for NotingSink<'a> {
 /// An outlet that notes how often the gate was passed when it is started, and when it is first
 /// written to.
 #[derive(Drop)]
-pub(super) struct NotingOutlet<'a> {
-    pub(super) outlet: ListOutlet,
+struct NotingOutlet<'a> {
+    outlet: ListOutlet,
     noted: &'a Noted,
     at_start: Option<u32>,
     at_write: Option<u32>,
 }
 
 impl<'a> NotingOutlet<'a> {
-    pub(super) fn new(outlet: ListOutlet, noted: &'a Noted) -> NotingOutlet<'a> {
+    fn new(outlet: ListOutlet, noted: &'a Noted) -> NotingOutlet<'a> {
         NotingOutlet {
             outlet,
             noted,
@@ -244,17 +244,16 @@ fn run_noted<R: Wait + Threads + Sync>(
         sink: ListSink::new(alloc, &[])?,
         noted,
     };
-    let words = owned(alloc, &RUN)?;
     let mut disk = MemoryDisk::new(alloc, &[], &[])?;
     let gate = NotingGate { noted };
-    Ok(perform(
+    ask(
         rt,
         alloc,
-        words,
+        &RUN,
         &mut source,
         &mut out,
         outlet,
         &mut disk,
         &gate,
-    ))
+    )
 }

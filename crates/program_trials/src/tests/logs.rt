@@ -1,9 +1,10 @@
 //! What is printed of logs: whole ones, and files that are none.
-use super::owned;
+use super::ask;
 use byte_ports::{ListOutlet, ListSink, ListSource, OpenGate};
 use disk_ports::MemoryDisk;
-use program::{Status, perform};
+use program::Status;
 use std::alloc::{AllocError, Global};
+use std::process::Abort;
 use std::sync::Wait;
 use std::test::Fail;
 use std::thread::Threads;
@@ -160,37 +161,47 @@ struct Told {
     disk: MemoryDisk,
 }
 
-fn tell<R: Wait + Threads + Sync>(rt: &R, alloc: Global, case: &Case) -> Result<Told, AllocError> {
+/// The bytes of the log of a case.
+fn log_of(alloc: Global, case: &Case) -> Result<Vec<u8>, AllocError> {
     let mut bytes = Vec::from_slice(alloc, TWO_RECORDS.as_slice())?;
     if let Some(place) = bytes.as_mut_slice().get_mut(case.changed.0) {
         *place = case.changed.1;
     }
     bytes.truncate(case.length);
+    Ok(bytes)
+}
+
+fn tell<R: Wait + Threads + Sync>(rt: &R, alloc: Global, case: &Case) -> Result<Told, AllocError> {
+    let bytes = log_of(alloc, case)?;
     let mut disk = MemoryDisk::new(alloc, &bytes, case.disk)?;
     let mut source = ListSource::new(alloc, case.input.as_bytes(), &[])?;
     let mut out = ListSink::new(alloc, case.out)?;
-    let words = owned(alloc, &["mainline", "log", "l"])?;
-    let status = perform(
+    let status = ask(
         rt,
         alloc,
-        words,
+        &["mainline", "log", "l"],
         &mut source,
         &mut out,
         &mut ListOutlet::new(alloc, &[])?,
         &mut disk,
         &OpenGate,
-    );
+    )?;
     Ok(Told { status, out, disk })
+}
+
+/// The telling of a log ended as its case says.
+fn check_told<R: Abort>(rt: &R, at: usize, case: &Case, told: &Told) {
+    assert_eq!(rt; told.status, case.status, "case {at}");
+    assert_eq!(rt; told.out.written(), case.printed.as_bytes(), "case {at}");
+    assert_eq!(rt; told.disk.started().len(), case.started, "case {at}");
+    assert_eq!(rt; told.disk.bytes().len(), case.length, "case {at}");
 }
 
 #[test]
 fn logs_are_told_up_to_the_place_where_they_are_none(rt: HostRuntime) -> Result<(), Fail> {
     for (at, case) in CASES.iter().enumerate() {
         let told = tell(&rt, rt.alloc(), case)?;
-        assert_eq!(rt; told.status, case.status, "case {at}");
-        assert_eq!(rt; told.out.written(), case.printed.as_bytes(), "case {at}");
-        assert_eq!(rt; told.disk.started().len(), case.started, "case {at}");
-        assert_eq!(rt; told.disk.bytes().len(), case.length, "case {at}");
+        check_told(&rt, at, case, &told);
     }
     Ok(())
 }

@@ -18,8 +18,7 @@ returns-clause-ends g c =
     ∙ ap (λ (broken : Option ℕ). log_text tables c.in-Ok.reading.commits broken)
     c.broken_at-broken.ensures in
     told_broken tables c.args.path.now
-    (of_disk (g.D.Disk.told c.args.disk.now) (g.D.Disk.started c.args.disk.now)
-    (g.D.Disk.started c.read_at.new.disk))
+    (of_disk g.D.Disk.told g.D.Disk.started g.D.Disk.may_leave g.D.Disk.moment g.D.Disk.left_since c.args.disk.now c.read_at.new.disk)
     c.in-Ok.reading.commits end c.in-Ok.ensures.started c.in-Ok.ensures.fit c.in-Ok.ensures.ok
     c.as_slice-2.result.now text_is (g.O.Sink.written c.args.out.now)
     (g.O.Sink.written c.write_all.new.sink) c.in-Broken.place c.in-Broken.is

@@ -1,6 +1,8 @@
-use Rattle.std.proofs.Common.{refl}
-use Rattle.program.specs.Outcome.{BenchEnds, CheckEnds, ShowEnds, TextEnds, UsageEnds}
+use Rattle.std.proofs.Common.{ℕ, ap, subst, sym}
+use Rattle.program.specs.Outcome.{BenchEnds, CheckEnds, ShowEnds, TellsFaults, TextEnds, UsageEnds}
 use Rattle.program.specs.Words.{help_text, version_line}
+use Rattle.program.specs.declared.status.Status.TheVariants as status
+use Rattle.program.proofs.Disks.{is_left, same_reads}
 use Rattle.program.proofs.Flushes.{no_log_fault}
 use Rattle.program.proofs.Unjudged.{ends-unjudged}
 use Rattle.program.proofs.performing.carry_out.Goals as goal
@@ -19,11 +21,18 @@ returns-in-Ok-Check-clause-log_faults g c =
 
 pub returns-in-Ok-Bench-clause-log_faults : goal.returns-in-Ok-Bench-clause-log_faults
 returns-in-Ok-Bench-clause-log_faults g c =
-    no_log_fault (BenchEnds c.in-Ok-Bench.seed c.in-Ok-Bench.size) (λ before now no. no)
+    subst (λ (faults : ℕ). TellsFaults status.LogFault c.bench.result (g.D.Disk.faults c.args.disk.now) faults)
+    (ap g.D.Disk.faults (sym c.bench.ensures.left))
+    (no_log_fault (BenchEnds c.in-Ok-Bench.seed c.in-Ok-Bench.size) (λ before now no. no)
     c.bench.result _ _
     (c.bench.ensures.ends (g.S.Source.left c.args.source.now)
     (g.X.Sink.written c.args.export.now) (g.X.Sink.started c.args.export.now))
-    (g.D.Disk.faults c.args.disk.now)
+    (g.D.Disk.faults c.args.disk.now))
+
+pub returns-in-Ok-Bench-clause-reads : goal.returns-in-Ok-Bench-clause-reads
+returns-in-Ok-Bench-clause-reads g c = λ keeps.
+    same_reads g.D.Disk.told g.D.Disk.may_leave g.D.Disk.moment g.D.Disk.left_since g.met.D.Disk.only_now
+    c.args.disk.now c.bench.new.disk c.bench.ensures.left
 
 pub returns-in-Ok-Help-clause-log_faults : goal.returns-in-Ok-Help-clause-log_faults
 returns-in-Ok-Help-clause-log_faults g c =
@@ -48,5 +57,7 @@ returns-in-Err-Usage-clause-log_faults g c =
 
 pub returns-clause-ends : goal.returns-clause-ends
 returns-clause-ends g c =
-    ends-unjudged _ _ refl (g.S.Source.left c.args.source.now) (g.O.Sink.written c.args.out.now)
+    ends-unjudged _ _
+    (is_left g.D.Disk.told g.D.Disk.may_leave g.D.Disk.moment g.D.Disk.left_since g.met.D.Disk.only_now g.D.Disk.started c.args.disk.now)
+    (g.S.Source.left c.args.source.now) (g.O.Sink.written c.args.out.now)
     (g.X.Sink.written c.args.export.now) (g.X.Sink.started c.args.export.now)

@@ -3,7 +3,7 @@ use Rattle.std.specs.List.{list_any}
 use Rattle.workload_spec.specs.Valid.{is_export}
 use Rattle.workload_spec.specs.declared.script.Line.{Line}
 use Rattle.program.proofs.Exports.{rounds_export}
-use Rattle.program.proofs.performing.has_export.Goals as goal
+use Rattle.program.proofs.running.has_export.Goals as goal
 
 pub returns : goal.returns
 returns c =
