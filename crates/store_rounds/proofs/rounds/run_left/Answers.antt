@@ -19,7 +19,7 @@ use Rattle.store_rounds.proofs.Turns.{none_left}
 use Rattle.store_rounds.proofs.Short.{few_lines, few_rounds}
 use Rattle.store_rounds.proofs.Running.{number_fits, round_has_room, round_once, round_served, round_within}
 use Rattle.store_rounds.proofs.Logged.{failed_as}
-use Rattle.store_rounds.proofs.Looping.{looping_alone, looping_begins, looping_cut, looping_ends, looping_goes_on, looping_stops, looping_unended, looping_unlogged}
+use Rattle.store_rounds.proofs.Looping.{looping_begins, looping_cut, looping_ends, looping_goes_on, looping_stops, looping_unended}
 use Rattle.store_rounds.proofs.rounds.run_left.Goals as goal
 
 pub loop-round-init : goal.loop-round-init
