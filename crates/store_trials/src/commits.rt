@@ -197,7 +197,10 @@ fn a_store_goes_on_behind_its_first_commits(rt: HostRuntime) -> Result<(), Fail>
         mut sessions,
         ..
     } = Store::build_from(alloc, tables, 1, 0, &first)?;
-    go_on(&rt, alloc, &store, &mut sessions[0])
+    let Some(mut session) = sessions.pop() else {
+        return Err(Fail::from("no session"));
+    };
+    go_on(&rt, alloc, &store, &mut session)
 }
 
 /// The second table has a slot, and its rows are two.
