@@ -86,7 +86,28 @@ fn finish<R: Wait>(rt: &R, store: &Store, session: &mut Session, end: End) -> Re
     Ok(())
 }
 
-/// Writes what each case writes, ends its transaction, and takes the commits, which are the case's.
+/// Writes what a case writes, ends its transaction, and takes the commits, which are the case's.
+fn keep_and_take<R: Abort + Wait>(
+    rt: &R,
+    alloc: Global,
+    store: &Store,
+    session: &mut Session,
+    case: &Case,
+) -> Result<(), Fail>
+    requires session { IsFreeSession store.now session.old }
+    requires room { HasRoomFor (2 ^ 10) session.old }
+    requires table { 1 ≤ length (shape_in store.now).tables }
+    ensures session { OnOk result (IsFreeSession store.now session.new) }
+    ensures few { OnOk result (MakesAtMost (2 ^ 10) session.old session.new) }
+{
+    write_open(rt, alloc, store, session, case.writes)?;
+    finish(rt, store, session, case.end)?;
+    let taken = format!(in alloc; "{:?}", session.take_commits())?;
+    assert_eq!(rt; taken.as_str(), case.taken);
+    Ok(())
+}
+
+/// Carries out all cases.
 fn keep<R: Abort + Wait>(
     rt: &R,
     alloc: Global,
@@ -98,10 +119,7 @@ fn keep<R: Abort + Wait>(
     requires table { 1 ≤ length (shape_in store.now).tables }
 {
     for case in &CASES {
-        write_open(rt, alloc, store, session, case.writes)?;
-        finish(rt, store, session, case.end)?;
-        let taken = format!(in alloc; "{:?}", session.take_commits())?;
-        assert_eq!(rt; taken.as_str(), case.taken);
+        keep_and_take(rt, alloc, store, session, case)?;
     }
     Ok(())
 }
@@ -197,7 +215,10 @@ fn a_store_goes_on_behind_its_first_commits(rt: HostRuntime) -> Result<(), Fail>
         mut sessions,
         ..
     } = Store::build_from(alloc, tables, 1, 0, &first)?;
-    go_on(&rt, alloc, &store, &mut sessions[0])
+    let Some(mut session) = sessions.pop() else {
+        return Err(Fail::from("no session"));
+    };
+    go_on(&rt, alloc, &store, &mut session)
 }
 
 /// The second table has a slot, and its rows are two.
