@@ -38,7 +38,7 @@ use Rattle.workload_spec.specs.declared.command.Command.TheVariants.{Gather}
 use Rattle.workload_spec.specs.declared.reply.Said.{Said}
 use Rattle.workload_spec.specs.declared.reply.Said.TheVariants as said
 use Rattle.store_laws.specs.Logs.{log_of}
-use Rattle.store_laws.specs.Own.{entry_of, parts_after}
+use Rattle.store_laws.specs.Own.{entry_of, occurrence_at, parts_after}
 use Rattle.hall_rule.specs.declared.view.Entry.{Entry}
 use Rattle.isolation_spec.specs.Reads.{ReadSet}
 use Rattle.run_spec.specs.Calls.{reads_behind}

@@ -1,18 +1,16 @@
 -- What a session keeps of its commits, along its calls: what its own events wrote, but what was taken.
-use Rattle.std.proofs.Common.{◌≡◌, ◌≤◌, ◌+◌, ℕ, zero, suc, ◌==◌, Bool, true, false, cond, List, [], ◌∷◌, ◌++◌, Option, Some, drop, fold, length, option_map, refl, sym, ap, subst, ◌∙◌, arith, length-append}
+use Rattle.std.proofs.Common.{◌≡◌, ◌≤◌, ℕ, zero, suc, ◌==◌, Bool, true, false, cond, List, [], ◌∷◌, ◌++◌, Some, drop, fold, length, refl, sym, ap, subst, ◌∙◌, arith, length-append}
 use Rattle.std.proofs.lemmas.List.Sums.{fold-append}
 use Rattle.core_laws.proofs.Sound.Bodies.{true_false}
 use Rattle.event_spec.specs.declared.event.Event.TheVariants as event
 use Rattle.event_spec.specs.Effects.{CoreEvent}
 use Rattle.event_spec.specs.Parts.{Parts, Shape}
-use Rattle.event_spec.specs.Replay.{after, reply_after}
-use Rattle.event_spec.specs.Replies.{CoreReply}
+use Rattle.event_spec.specs.Replay.{after}
 use Rattle.isolation_spec.specs.Contents.{WriteSet}
 use Rattle.run_spec.specs.Commits.{SessionWrites, commit_by, own_written, writes_behind, writes_of}
 use Rattle.run_spec.specs.declared.commit.Commit.{Commit}
-use Rattle.run_spec.specs.Handed.{Called, Stretch, own_in, parts_left}
+use Rattle.run_spec.specs.Handed.{Stretch, own_in, parts_left}
 use Rattle.run_spec.specs.Occurrences.{Logged, Occurrence, occurrence_of, occurrences_from, under}
-use Rattle.run_spec.specs.Told.{is_shared}
 use Rattle.run_spec.specs.Traces.{Action, EachAlong, MayLend, as_log, log_in}
 use Rattle.store_laws.proofs.Lends.{lend_leaves, no_image_told}
 use Rattle.store_laws.proofs.Lent.{events_grown, own_events}
@@ -24,7 +22,7 @@ use Rattle.workload_spec.specs.declared.reply.Said.{Said}
 use Rattle.shared_store.specs.Building.{IsNewSession, StartsKeeping}
 use Rattle.shared_store.specs.Commits.{without_first, written_behind}
 use Rattle.shared_store.specs.KeptCommits.{nothing_written}
-use Rattle.shared_store.specs.Store.{Answers, KeepsCommits, KeepsOn, StoreView, own_writes, seen, shape_in, wrote_of}
+use Rattle.shared_store.specs.Store.{Answers, IsSession, KeepsCommits, KeepsOn, StoreView, handed_over, own_writes, seen, shape_in, wrote_of}
 use Rattle.shared_store.specs.declared.session.Session.{Session}
 use Rattle.shared_store.proofs.Noted.{one_none, writes_none}
 
@@ -132,6 +130,10 @@ kept_on taken (o ∷ made) w within =
       ap (λ commits. fold writes_behind (with_commits (own_written w.own o.event o.reply) commits) made) (sym (drop_grown taken w.commits more within)) ∙ rest.0,
       rest.1,
     )
+
+-- a session from which its commits were taken is one
+pub handed_session : (store : StoreView) (s : Session) → IsSession store s → IsSession store (handed_over s)
+handed_session store s is = record { stands = is.stands; own = is.own; lawful = is.lawful; named = is.named; fits = is.fits }
 
 -- A session that was just built, and keeps its commits, keeps all of them.
 pub keeps_new : (store : StoreView) (number : ℕ) (s : Session) → IsNewSession store number s → StartsKeeping true s → KeepsCommits store 0 s

@@ -24,7 +24,7 @@ use Rattle.store_laws.specs.Logs.{log_of, store_meaning}
 use Rattle.store_laws.specs.Own.{StandsUnder, parts_after}
 use Rattle.shared_store.specs.Keeping.{GivesPart, IsKeeping, IsOnBlock, Keeps, MakesAnyKeeping, MakesKeeping, rested, rested_hands, rested_seat}
 use Rattle.shared_store.specs.Making.{Gives, Makes, MakesHeld, Takes}
-use Rattle.shared_store.specs.Store.{EndsWithLast, HandsView, IsAt, IsSession, IsWithin, KeepsLend, SeatView, StoreView, TookPartsOf, own_of, seen, shape_in, taken_by, KeepsNotes, reads_of}
+use Rattle.shared_store.specs.Store.{EndsWithLast, HandsView, IsAt, IsSession, IsWithin, KeepsLend, SeatView, StoreView, TookPartsOf, own_of, seen, shape_in, taken_by, KeepsNotes, notes_of, reads_of}
 use Rattle.shared_store.specs.Sweeping.{MakesAlone, Sweeps, SweepsMore}
 use Rattle.shared_store.specs.declared.session.Session.{Session}
 use Rattle.shared_store.proofs.Kept.{body_touched, covers_with, hand_room, keeps_without, rested_at}

@@ -5,7 +5,6 @@ use Rattle.std.specs.Prelude.{IfOk, Result, Ok, Err, slice_get}
 use Rattle.std.proofs.lemmas.List.{get_or-reverse, get_or-take, length-reverse}
 use Rattle.std.proofs.lemmas.Option.{get_or_from_slice_get, slice_get_read, slice_get_within}
 use Rattle.atomic_table.specs.Table.{Me}
-use Rattle.cell_model.specs.declared.table.TableDecl.{TableDecl}
 use Rattle.engine_core.specs.Core.{CoreState, IsOpening}
 use Rattle.event_spec.specs.Effects.{CoreEvent}
 use Rattle.event_spec.specs.Lawful.{transaction}

@@ -15,7 +15,6 @@ use Rattle.event_spec.specs.Parts.{Parts, Shape, blocks_of, slots_of}
 use Rattle.event_spec.specs.Replies.{CoreReply}
 use Rattle.event_spec.specs.declared.own.OwnTransaction.{OwnTransaction}
 use Rattle.isolation_spec.specs.Contents.{contents_of, sum_of}
-use Rattle.isolation_spec.specs.declared.read.Read.TheVariants as what
 use Rattle.lane_filter.specs.Totals.{IsTotalOf}
 use Rattle.lane_filter.specs.declared.total.Total.{Total}
 use Rattle.run_spec.specs.Calls.{is_memory}

@@ -1,6 +1,6 @@
 -- What a session keeps of its commits, by its events.
-use Rattle.std.specs.Prelude.{◌≡◌, ◌≤◌, ℕ, true, List, [], Option, Some, Result, Ok, fold, is_some}
-use Rattle.std.specs.Prelude.{length, option_map}
+use Rattle.std.specs.Prelude.{◌≡◌, true, List, [], Option, Result, Ok, fold, is_some}
+use Rattle.std.specs.Prelude.{option_map}
 use Rattle.block_spec.specs.Slots.{Row}
 use Rattle.event_spec.specs.Effects.{CoreEvent}
 use Rattle.event_spec.specs.Replies.{CoreReply}

@@ -1,5 +1,5 @@
 -- What a total counts, what is told of it, and how many rows are looked at.
-use Rattle.std.specs.Prelude.{◌≡◌, ℕ, ℤ, pos, negsuc, ◌+◌, ◌-◌, ◌*◌, ◌^◌, ◌≤◌, ◌&&◌, Bool, true, false}
+use Rattle.std.specs.Prelude.{◌≡◌, ℕ, ℤ, pos, negsuc, ◌+◌, ◌-◌, ◌*◌, ◌^◌, ◌≤◌, Bool, true, false}
 use Rattle.std.specs.Prelude.{List, [], ◌∷◌, Some, All, IfOk, OnOk, Result, count_by, not, slice_get}
 use Rattle.std.specs.Option.{option_map_or}
 use Rattle.block_spec.specs.Slots.{Row}
@@ -14,7 +14,7 @@ use Rattle.isolation_spec.specs.Contents.{numbers_between}
 use Rattle.lane_filter.specs.Totals.{IsNumber, IsTotalOf, numbers_among}
 use Rattle.lane_filter.specs.declared.total.Total.{Total}
 use Rattle.run_spec.specs.Calls.{is_memory}
-use Rattle.run_spec.specs.Occurrences.{Occurrence, replies_in}
+use Rattle.run_spec.specs.Occurrences.{replies_in}
 use Rattle.run_spec.specs.Told.{is_shared, rows_told}
 use Rattle.workload_spec.specs.Valid.{are_bounds_in}
 use Rattle.workload_spec.specs.declared.command.Command.TheVariants as command

@@ -16,7 +16,7 @@ use Rattle.store_rounds.specs.Sessions.{IsFreeSession}
 use Rattle.shared_store.specs.declared.session.Session.{Session}
 use Rattle.store_rounds.specs.Turns.{most_of_turn}
 use Rattle.store_rounds.specs.Answered.{IsServed, most_events}
-use Rattle.store_rounds.specs.Duties.{AreDuties, AreOfSessions, AreWithWorkers, IsNew, IsOfSession, asks_export, fault_of, has_export, is_cut, is_whole}
+use Rattle.store_rounds.specs.Duties.{AreDuties, AreOfSessions, AreWithWorkers, IsNew, IsOfSession, asks_export, has_export, is_cut, is_whole}
 use Rattle.store_rounds.specs.Rounds.{HaveRoomFor}
 use Rattle.store_rounds.specs.Row.{AreSessions}
 use Rattle.store_rounds.specs.Served.{OneExportsAtMost, MayDo, MayServe, MayServeRow}
@@ -258,33 +258,3 @@ module _ (crew : Crew) (round : ℕ) (lines : List Line) (duties : List Duty) (a
           let apart : j + 1 ≡ k + 1 → ⊥ = λ (same : j + 1 ≡ k + 1). absurd (grind (arith, nat_tests, e, same)) in
           let two = two_counted (j + 1) (k + 1) lines apart (exporter j d low one).1 (exporter k d high other).1 in
           absurd (omega (arith, two, once))
-
--- ---- why a round stops the run
-
--- an outlet that failed, or else want of memory
-pub data Stopped (duties : List Duty) (failed : RunFault) : Type 0 where
-  by_outlet : failed ≡ fault.Export → list_any is_cut duties ≡ true → Stopped duties failed
-  by_memory : failed ≡ fault.Memory → list_any is_cut duties ≡ false → Stopped duties failed
-
--- a fault of the duties tells which of them stopped, and why
-pub fault_is : (duties : List Duty) (failed : RunFault) → fault_of duties ≡ Some failed → Stopped duties failed
-fault_is duties failed is = go (list_any is_cut duties) refl (list_any (λ (duty : Duty). not (is_whole duty)) duties) is
-  where
-    go : (cut : Bool) → list_any is_cut duties ≡ cut → (lost : Bool) → cond cut (Some fault.Export) (cond lost (Some fault.Memory) None) ≡ Some failed → Stopped duties failed
-    go true e lost is = by_outlet (cc is) e
-    go false e true is = by_memory (cc is) e
-    go false e false is = absurd (let never : ⊥ = cc is in never)
-
-pub record Whole (duties : List Duty) : Type 0 where
-  pub none_cut : list_any is_cut duties ≡ false
-  pub none_lost : list_any (λ (duty : Duty). not (is_whole duty)) duties ≡ false
-
--- where the duties have no fault, each of them came to its end
-pub no_fault : (duties : List Duty) → fault_of duties ≡ None → Whole duties
-no_fault duties is = go (list_any is_cut duties) refl (list_any (λ (duty : Duty). not (is_whole duty)) duties) refl is
-  where
-    go : (cut : Bool) → list_any is_cut duties ≡ cut → (lost : Bool) → list_any (λ (duty : Duty). not (is_whole duty)) duties ≡ lost
-        → cond cut (Some fault.Export) (cond lost (Some fault.Memory) None) ≡ None → Whole duties
-    go true e lost l is = absurd (let never : ⊥ = cc is in never)
-    go false e true l is = absurd (let never : ⊥ = cc is in never)
-    go false e false l is = record { none_cut = e; none_lost = l }

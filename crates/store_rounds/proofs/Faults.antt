@@ -18,6 +18,8 @@ pub counts_on : (T U : Type 0) (before now : ℕ) (failed : RunFault)
 counts_on T U before now fault.Out same = same
 counts_on T U before now fault.Export rose = rose
 counts_on T U before now fault.Memory same = same
+counts_on T U before now fault.Log same = same
+counts_on T U before now fault.GroupTooLong same = same
 
 -- a fault that is not the output's leaves its count
 pub not_of_output : (T : Type 0) (before now : ℕ) (failed : RunFault)
@@ -25,6 +27,8 @@ pub not_of_output : (T : Type 0) (before now : ℕ) (failed : RunFault)
 not_of_output T before now fault.Out other same = absurd (other refl)
 not_of_output T before now fault.Export other same = same
 not_of_output T before now fault.Memory other same = same
+not_of_output T before now fault.Log other same = same
+not_of_output T before now fault.GroupTooLong other same = same
 
 -- what both faults have, has the first of them
 pub either_fault : {T U : Type 0} (P : RunFault → Type 0) (r : Result T RunFault) (s : Result U RunFault) → IfErr r P → IfErr s P → IfErr (result_and r s) P

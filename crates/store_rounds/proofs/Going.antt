@@ -5,11 +5,11 @@ use Rattle.std.specs.Prelude.{IfErr, Result}
 use Rattle.workload_spec.specs.declared.script.Line.{Line}
 use Rattle.workload_spec.specs.declared.script.Script.{Script}
 use Rattle.run_spec.specs.Ran.{RoundRun}
-use Rattle.store_rounds.specs.Workloads.{GoesPart, GoesTo, OfRounds}
+use Rattle.store_rounds.specs.Workloads.{GoesPart, GoesTo, GoesUnshown, OfRounds}
 use Rattle.store_rounds.specs.declared.fault.RunFault.{RunFault}
 use Rattle.store_rounds.specs.declared.fault.RunFault.TheVariants as fault
 
-module _ (Goes Other : OfRounds) (told : (asked : List (List Line)) (ran : List RoundRun) (text : List ℕ) → Goes asked ran text → Other asked ran text)
+module _ (Goes Other : OfRounds) (told : (asked : List (List Line)) (ran : List RoundRun) (printed : ℕ) (text : List ℕ) → Goes asked ran printed text → Other asked ran printed text)
     (script : Script) (before now : Option (List ℕ)) where
   -- A run that stopped at a round, told without the store.
   abbrev to_told : (lines : List Line) → GoesTo Goes script lines before now → GoesTo Other script lines before now
@@ -25,9 +25,13 @@ module _ (Goes Other : OfRounds) (told : (asked : List (List Line)) (ran : List 
     hidden = to.hidden;
     of_round = to.of_round;
     explained_shown = to.explained_shown;
-    went = told _ _ _ to.went;
+    went = told _ _ _ _ to.went;
     printed = to.printed;
   }
+
+  -- One that stopped behind a round that ran whole, told without the store.
+  abbrev unshown_told : GoesUnshown Goes script before now → GoesUnshown Other script before now
+  unshown_told goes = record { lines = goes.lines; to = to_told goes.lines goes.to; whole = goes.whole }
 
   -- A run that does not come to its last round, told without the store.
   part_told : (failed : RunFault) → GoesPart Goes script failed before now → GoesPart Other script failed before now
@@ -41,7 +45,7 @@ module _ (Goes Other : OfRounds) (told : (asked : List (List Line)) (ran : List 
     shown = goes.shown;
     cut = goes.cut;
     of_round = goes.of_round;
-    went = told _ _ _ goes.went;
+    went = told _ _ _ _ goes.went;
     between = goes.between;
     printed = goes.printed;
     cut_off = goes.cut_off;
@@ -61,10 +65,12 @@ module _ (Goes Other : OfRounds) (told : (asked : List (List Line)) (ran : List 
     rounds = goes.rounds;
     ran = goes.ran;
     text = goes.text;
-    went = told goes.whole goes.ran goes.text goes.went;
+    went = told _ _ _ _ goes.went;
     printed = goes.printed;
   })
-  part_told fault.Memory (inr goes) = inr (record { lines = goes.lines; to = to_told goes.lines goes.to; whole = goes.whole })
+  part_told fault.Memory (inr goes) = inr (unshown_told goes)
+  part_told fault.Log goes = unshown_told goes
+  part_told fault.GroupTooLong goes = record { unshown = unshown_told goes.unshown; long = goes.long }
 
   -- what a failed run tells in part is told without the store
   pub on_part : {T : Type 0} (r : Result T RunFault) → IfErr r (λ failed. GoesPart Goes script failed before now) → IfErr r (λ failed. GoesPart Other script failed before now)

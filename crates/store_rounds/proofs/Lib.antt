@@ -17,11 +17,16 @@ mod WorkerTurns
 mod Quiet
 mod Parts
 mod Runs
+mod HandedOver
+mod Grouping
+pub mod Logged
 mod Duties
 mod WholeRounds
 mod Went
 mod Running
 mod Stopping
 mod Nothing
+mod AddedGroups
+mod Looping
 mod Going
 mod Counting

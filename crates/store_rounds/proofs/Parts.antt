@@ -107,6 +107,8 @@ counts_cut before now (Ok value) counts = counts
 counts_cut before now (Err fault.Out) counts = counts
 counts_cut before now (Err fault.Export) counts = counts
 counts_cut before now (Err fault.Memory) counts = counts
+counts_cut before now (Err fault.Log) counts = counts
+counts_cut before now (Err fault.GroupTooLong) counts = counts
 
 -- where only memory was refused, the count of the outlet's faults stays
 pub counts_kept : {T : Type 0} (count : ℕ) (r : Result T RunFault) → IfErr r (λ failed. failed ≡ fault.Memory) → CountsCut (is_cut_end r) count count

@@ -1,5 +1,5 @@
 -- A run, round by round.
-use Rattle.std.proofs.Common.{◌≡◌, ℕ, ◌+◌, ◌*◌, ◌<◌, ◌≤◌, ◌^◌, true, ◌&&◌, None, cond, List, [], ◌∷◌, ◌++◌, map, length, get_or, Option, refl, sym, ap, ◌∙◌, subst, append-nil, append_assoc, arith, length-append}
+use Rattle.std.proofs.Common.{◌≡◌, ℕ, ◌+◌, ◌*◌, ◌<◌, ◌≤◌, ◌^◌, true, ◌&&◌, None, cond, List, [], ◌∷◌, ◌++◌, map, length, get_or, take, Option, refl, sym, ap, ◌∙◌, subst, append-nil, append_assoc, arith, length-append}
 use Rattle.std.specs.Prelude.{All, count_by, sum_by}
 use Rattle.std.specs.List.{flat_map, list_all, range_with_len}
 use Rattle.std.specs.Io.KnownBytes.{Appends}
@@ -19,12 +19,17 @@ use Rattle.workload_spec.specs.declared.reply.Who.TheVariants.{Session as TheSes
 use Rattle.workload_spec.specs.declared.script.Line.{Line}
 use Rattle.workload_spec.specs.declared.script.Script.{Script}
 use Rattle.event_spec.specs.Parts.{Shape}
+use Rattle.isolation_spec.specs.Contents.{History}
 use Rattle.run_spec.specs.Calls.{Call, Kept}
 use Rattle.run_spec.specs.Occurrences.{Logged}
 use Rattle.run_spec.specs.Ran.{IsRunnable, RoundRun, Share, shape_of}
 use Rattle.run_spec.specs.Ran.{calls_of as kept_calls}
+use Rattle.run_laws.proofs.Commits.Rounds.{rounds_go_on as commits_go_on}
 use Rattle.run_laws.proofs.Rounds.Lines.{rounds_grow}
 use Rattle.run_laws.proofs.Rounds.Rounds.{nothing_ran, rounds_go_on}
+use Rattle.run_laws.proofs.Rounds.Texts.{rounds_ran}
+use Rattle.run_laws.specs.Commits.Rounds.{GoesOnBy}
+use Rattle.run_laws.specs.Rounds.Fronts.{with_rounds}
 use Rattle.run_laws.specs.Rounds.Lines.{round_text, rounds_text}
 use Rattle.run_laws.specs.Rounds.Rounds.{RanFurther, RanSoFar}
 use Rattle.run_laws.specs.Rounds.Texts.{AreCounted}
@@ -34,12 +39,19 @@ use Rattle.shared_store.specs.declared.session.Session.{Session}
 use Rattle.store_rounds.specs.Turns.{most_of_turn}
 use Rattle.store_rounds.specs.Answered.{IsServed, SentBy, most_events}
 use Rattle.store_rounds.specs.Crews.{calls_of, crew_calls, crew_of, crew_shares, shares_of}
+use Rattle.store_rounds.specs.Duties.{IsWholeText}
+use Rattle.store_rounds.specs.Grouped.{AreByNumber, HandedOver, MayHaveHandedOver, kept_in}
+use Rattle.store_rounds.specs.Logging.{OfLogged}
 use Rattle.store_rounds.specs.Rounds.{AllTurned, AskedAll, HaveRoomFor, RanRound, RowRan}
 use Rattle.store_rounds.specs.Runs.{IsRowOf, RunsIn, Standing}
-use Rattle.store_rounds.specs.Worked.{share_of}
+use Rattle.store_rounds.specs.Worked.{KeptAlong, share_of}
 use Rattle.store_rounds.specs.Workloads.{GoesCutOff, GoesWhole}
 use Rattle.store_rounds.specs.declared.crew.Crew.{Crew}
+use Rattle.store_rounds.specs.declared.duty.Duty.{Duty}
 use Rattle.store_rounds.proofs.Duties.{commands_few}
+use Rattle.store_rounds.proofs.Grouping.{RowKeeps, of_the_round, row_keeps_on}
+use Rattle.store_rounds.proofs.HandedOver.{events_stay, reads_stay, standing_stays}
+use Rattle.store_rounds.proofs.Logged.{Adds}
 use Rattle.store_rounds.proofs.Readings.{KeptBy, kept_begins, kept_by, kept_further}
 use Rattle.store_rounds.proofs.Runs.{Place, gone_on, is_row, of_session, of_worker, place, row_met, shares_counted, stand_behind}
 use Rattle.store_rounds.proofs.Scripts.{few_exports, few_turns, has_sessions, lines_are_valid}
@@ -89,12 +101,12 @@ pub record Running (script : Script) (store : StoreView) (row : List Session) (a
   pub asked_count : number ≡ length asked
 
 -- At each place of a new row stands a new session, numbered from one on.
-new_at : (store : StoreView) (count : ℕ) (row : List Session) (k : ℕ) (d : Session) → IsNewRow store count row → k < length row
+pub new_at : (store : StoreView) (count : ℕ) (row : List Session) (k : ℕ) (d : Session) → IsNewRow store count row → k < length row
     → IsNewSession store (k + 1) (get_or row k d)
 new_at store count row k d new within = new.each k (get_or row k d) (grind (arith, elements))
 
 -- A new row stands behind no rounds, with an empty log.
-new_row_stands : (store : StoreView) (count : ℕ) (row : List Session) → IsNewRow store count row → Standing store [] row
+pub new_row_stands : (store : StoreView) (count : ℕ) (row : List Session) → IsNewRow store count row → Standing store [] row
 new_row_stands store count row new = record {
   sessions = λ k d within.
       let one = new_at store count row k d new within in
@@ -104,7 +116,7 @@ new_row_stands store count row new = record {
 }
 
 -- before the first round, a new row stands behind no rounds, and nothing was printed or sent
-pub running_begins : (script : Script) (store : StoreView) (row : List Session) (before exported : Option (List ℕ))
+abbrev pub running_begins : (script : Script) (store : StoreView) (row : List Session) (before exported : Option (List ℕ))
     → IsRunnable script → shape_in store ≡ shape_of script → IsNewRow store (script.sessions + script.workers) row
     → Running script store row [] before before exported exported 0
 running_begins script store row before exported valid shape new = record {
@@ -219,7 +231,7 @@ module _ (script : Script) (store : StoreView) (old new : List Session) (asked :
       (stand_behind script store running.finished old new running.is running.stands done.calls done.ran)
 
   -- the text of the round's lines, told of the script's tables
-  told_further : (text : List ℕ) → text ≡ round_text (shape_in store).tables (number + 1) shares
+  pub told_further : (text : List ℕ) → text ≡ round_text (shape_in store).tables (number + 1) shares
       → rounds_text script.tables 1 running.rounds ++ text ≡ rounds_text script.tables 1 both
   told_further text is =
       ap (λ (more : List ℕ). rounds_text script.tables 1 running.rounds ++ more)
@@ -240,7 +252,7 @@ module _ (script : Script) (store : StoreView) (old new : List Session) (asked :
       (subst (λ (shape : Shape). SentBy shape.tables (crew_calls (crew_of script) done.calls) exported_now exported_later) running.is.shape done.sent))
 
   -- With this round too, each of the row made few enough events.
-  few_further : (k : ℕ) (d : Session) → k < length new → events_made (get_or new k d) ≤ most_so_far (asked ++ lines ∷ [])
+  pub few_further : (k : ℕ) (d : Session) → k < length new → events_made (get_or new k d) ≤ most_so_far (asked ++ lines ∷ [])
   few_further k d within = go (place script.sessions script.workers k (omega (arith, within, done.ran.size, running.is.size)))
     where
       go : Place script.sessions script.workers k → events_made (get_or new k d) ≤ most_so_far (asked ++ lines ∷ [])
@@ -265,19 +277,71 @@ module _ (script : Script) (store : StoreView) (old new : List Session) (asked :
           let rounds = length_push asked lines in
           omega (arith, before, worked, met, turns, counted, rounds))
 
+  -- What is taken behind the round is what it adds to the history.
+  pub adds : IsRunnable (with_rounds (asked ++ lines ∷ []) script) → script.sessions ≤ length new
+      → RowKeeps script.sessions store old running.rounds → (group : History) → AreByNumber (kept_in (take script.sessions new)) group → Adds script running.rounds round group
+  adds valid few keeps group sets =
+      let ran = rounds_ran script (asked ++ lines ∷ []) both (running.finished ++ more) ran_further keeps_more in
+      let goes = commits_go_on (with_rounds (asked ++ lines ∷ []) script) (running.finished ++ more) (rounds_text script.tables 1 both) running.rounds round sets.sorted
+      valid ran.ran ran.rounds_are
+      (record {
+        same = (of_the_round script store old new running.rounds further.made done.calls done.ran ran_further.done keeps group few sets).same;
+        rises = sets.rises;
+      }) in
+      let by = subst (λ (rounds : List RoundRun). GoesOnBy (with_rounds (asked ++ lines ∷ []) script) rounds (length running.rounds) sets.sorted) ran.rounds_are goes in
+      record { sorted = sets.sorted; sets = sets.sets_are; by = record { history = by.history; tables = by.tables } }
+
+  -- Those of whom it was taken keep none of it.
+  pub keeps_none : (row : List Session) → RowKeeps script.sessions store old running.rounds → HandedOver script.sessions new row → RowKeeps script.sessions store row both
+  keeps_none row keeps taken = row_keeps_on script store old new running.rounds further.made done.calls done.ran ran_further.done keeps row taken
+
 -- ---- a round that ran
 
-module _ (script : Script) (store : StoreView) (old new : List Session) (asked : List (List Line)) (before now exported exported_now exported_later : Option (List ℕ)) (number : ℕ) (lines : List Line) (text : List ℕ)
+-- A run stands as it stood where commits were taken of its row.
+abbrev row_stays : (script : Script) (store : StoreView) (old new : List Session) (asked : List (List Line)) (before now exported exported_now : Option (List ℕ)) (number : ℕ)
+    → MayHaveHandedOver old new → Running script store old asked before now exported exported_now number → Running script store new asked before now exported exported_now number
+row_stays script store old new asked before now exported exported_now number may running = record {
+  rounds = running.rounds;
+  finished = running.finished;
+  ran = running.ran;
+  counted = running.counted;
+  kept = record {
+    sessions = λ k d within. subst (KeptAlong None (kept_calls (TheSession (k + 1)) running.rounds))
+        (sym (reads_stay old new may k d (let size = running.is.size in omega (arith, within, size)))) (running.kept.sessions k d within);
+    workers = λ k d within. subst (KeptAlong None (kept_calls (TheWorker (k + 1)) running.rounds))
+        (sym (reads_stay old new may (script.sessions + k) d (let size = running.is.size in omega (arith, within, size)))) (running.kept.workers k d within);
+    no_session = running.kept.no_session;
+    no_worker = running.kept.no_worker;
+  };
+  stands = standing_stays store running.finished old new may running.stands;
+  is = record { shape = running.is.shape; size = may.size ∙ running.is.size };
+  some = running.some;
+  turns = running.turns;
+  few = λ k d within.
+      let inside : k < length old = omega (arith, within, may.size) in
+      subst (λ n. n ≤ most_so_far asked) (sym (events_stay old new may k d inside)) (running.few k d inside);
+  printed = running.printed;
+  sent = running.sent;
+  count = running.count;
+  asked_count = running.asked_count;
+}
+
+module _ (script : Script) (store : StoreView) (old new row : List Session) (asked : List (List Line)) (before now exported exported_now exported_later : Option (List ℕ)) (number : ℕ) (lines : List Line) (duties : List Duty) (text : List ℕ)
     (running : Running script store old asked before now exported exported_now number)
-    (did : RanRound store (number + 1) (crew_of script) old new lines text exported_now exported_later) where
+    (did : RanRound store (number + 1) (crew_of script) old new lines duties exported_now exported_later)
+    (whole : IsWholeText duties text) (may : MayHaveHandedOver new row) where
   -- The round that ran, told without its text.
-  abbrev done : RoundDone script store old new lines exported_now exported_later
+  abbrev pub done : RoundDone script store old new lines exported_now exported_later
   done = record { calls = did.calls; ran = did.ran; asked = did.asked; turned = did.turned; sent = did.sent }
 
+  -- the text of its lines
+  pub its_text : text ≡ round_text (shape_in store).tables (number + 1) (crew_shares (crew_of script) did.calls)
+  its_text = whole.text_is ∙ did.text_is whole.none_lost
+
   -- once the round's text was printed, the run goes on one round further
-  pub running_goes_on : (later : Option (List ℕ)) → Appends now later text
-      → Running script store new (asked ++ lines ∷ []) before later exported exported_later (number + 1)
-  running_goes_on later grown = record {
+  abbrev pub running_goes_on : (later : Option (List ℕ)) → Appends now later text
+      → Running script store row (asked ++ lines ∷ []) before later exported exported_later (number + 1)
+  running_goes_on later grown = row_stays script store new row (asked ++ lines ∷ []) before later exported exported_later (number + 1) may (record {
     rounds = both script store old new asked before now exported exported_now exported_later number running lines done;
     finished = running.finished ++ more script store old new asked before now exported exported_now exported_later number running lines done;
     ran = ran_further script store old new asked before now exported exported_now exported_later number running lines done;
@@ -289,19 +353,20 @@ module _ (script : Script) (store : StoreView) (old new : List Session) (asked :
     turns = running.turns;
     few = few_further script store old new asked before now exported exported_now exported_later number running lines done;
     printed = subst (Appends before later)
-        (told_further script store old new asked before now exported exported_now exported_later number running lines done text did.text_is)
+        (told_further script store old new asked before now exported exported_now exported_later number running lines done text its_text)
         (Appends-trans before now later (rounds_text script.tables 1 running.rounds) text running.printed grown);
     sent = sent_further script store old new asked before now exported exported_now exported_later number running lines done;
     count = ap (λ n. n + 1) running.count
         ∙ sym (length_push running.rounds (round script store old new asked before now exported exported_now exported_later number running lines done));
     asked_count = ap (λ n. n + 1) running.asked_count ∙ sym (length_push asked lines);
-  }
+  })
 
   -- its lines were not printed
-  pub running_is_cut_off : (rest : List (List Line)) (later : Option (List ℕ)) → IsRunnable script → asked ++ lines ∷ rest ≡ script.rounds
+  pub running_is_cut_off : (Logs : OfLogged) (rest : List (List Line)) (later : Option (List ℕ)) → IsRunnable script → asked ++ lines ∷ rest ≡ script.rounds
+      → Logs (both script store old new asked before now exported exported_now exported_later number running lines done) (length running.rounds + 1)
       → AppendsFront now later text
-      → GoesCutOff (RunsIn script store new exported exported_later) script before later
-  running_is_cut_off rest later valid split front =
+      → GoesCutOff (RunsIn script store row exported exported_later Logs) script before later
+  running_is_cut_off Logs rest later valid split logs front =
       let parted : script.rounds ≡ (asked ++ lines ∷ []) ++ rest = sym split ∙ sym (append_assoc asked (lines ∷ []) rest) in
       let these : List Share = crew_shares (crew_of script) did.calls in record {
         whole = asked;
@@ -312,12 +377,12 @@ module _ (script : Script) (store : StoreView) (old new : List Session) (asked :
         last = round script store old new asked before now exported exported_now exported_later number running lines done;
         shown = rounds_text script.tables 1 running.rounds;
         cut = text;
-        of_round = did.text_is
+        of_round = its_text
             ∙ ap (λ (shape : Shape). round_text shape.tables (number + 1) these) running.is.shape
             ∙ ap (λ n. round_text script.tables (n + 1) these) running.asked_count;
-        went = subst (RunsIn script store new exported exported_later (asked ++ lines ∷ [])
-            (both script store old new asked before now exported exported_now exported_later number running lines done))
-            (sym (told_further script store old new asked before now exported exported_now exported_later number running lines done text did.text_is))
+        went = subst (RunsIn script store row exported exported_later Logs (asked ++ lines ∷ [])
+            (both script store old new asked before now exported exported_now exported_later number running lines done) (length running.rounds + 1))
+            (sym (told_further script store old new asked before now exported exported_now exported_later number running lines done text its_text))
             (record {
               went = went_so_far script
                   (both script store old new asked before now exported exported_now exported_later number running lines done)
@@ -328,7 +393,9 @@ module _ (script : Script) (store : StoreView) (old new : List Session) (asked :
                   (sent_further script store old new asked before now exported exported_now exported_later number running lines done)
                   (asked ++ lines ∷ []) rest parted valid
                   (ran_further script store old new asked before now exported exported_now exported_later number running lines done);
-              stands = stands_further script store old new asked before now exported exported_now exported_later number running lines done;
+              stands = standing_stays store (running.finished ++ more script store old new asked before now exported exported_now exported_later number running lines done) new row may
+                  (stands_further script store old new asked before now exported exported_now exported_later number running lines done);
+              logs = logs;
             });
         between = now;
         printed = running.printed;
@@ -336,17 +403,18 @@ module _ (script : Script) (store : StoreView) (old new : List Session) (asked :
       }
 
 -- all rounds ran
-pub running_ends : (script : Script) (store : StoreView) (row : List Session) (asked : List (List Line)) (before now exported exported_now : Option (List ℕ)) (number : ℕ)
-    → IsRunnable script → Running script store row asked before now exported exported_now number → asked ≡ script.rounds
-    → GoesWhole (RunsIn script store row exported exported_now) script before now
-running_ends script store row asked before now exported exported_now number valid running all = record {
+pub running_ends : (script : Script) (store : StoreView) (row : List Session) (asked : List (List Line)) (before now exported exported_now : Option (List ℕ)) (number : ℕ) (Logs : OfLogged)
+    → IsRunnable script → (running : Running script store row asked before now exported exported_now number) → Logs running.rounds (length running.rounds) → asked ≡ script.rounds
+    → GoesWhole (RunsIn script store row exported exported_now Logs) script before now
+running_ends script store row asked before now exported exported_now number Logs valid running logs all = record {
   ran = running.rounds;
   text = rounds_text script.tables 1 running.rounds;
-  went = subst (λ (rounds : List (List Line)). RunsIn script store row exported exported_now rounds running.rounds (rounds_text script.tables 1 running.rounds)) all
+  went = subst (λ (rounds : List (List Line)). RunsIn script store row exported exported_now Logs rounds running.rounds (length running.rounds) (rounds_text script.tables 1 running.rounds)) all
       (record {
         went = went_so_far script running.rounds running.finished exported exported_now running.counted (keeps_now script store row asked before now exported exported_now number running) running.sent asked []
             (sym all ∙ sym (append-nil asked)) valid running.ran;
         stands = running.stands;
+        logs = logs;
       });
   printed = running.printed;
 }

@@ -1,20 +1,23 @@
 -- What a workload is made of, and that a store may be built of its tables.
-use Rattle.std.proofs.Common.{◌≡◌, ◌+◌, ◌≤◌, ◌^◌, ◌/◌, ◌*◌, ◌%◌, ◌==◌, ◌∙◌, min, Bool, true, ◌&&◌, nat_le, nat_lt, Option, None, Some, List, [], ◌∷◌, length, count_by, refl, sym, ap, subst, arith}
+use Rattle.std.proofs.Common.{◌≡◌, ℕ, ◌+◌, ◌≤◌, ◌^◌, ◌/◌, ◌*◌, ◌%◌, ◌==◌, ◌∙◌, min, Bool, true, ◌&&◌, nat_le, nat_lt, Option, None, Some, List, [], ◌∷◌, length, count_by, refl, sym, ap, subst, arith}
 use Rattle.std.specs.Prelude.{All, is_none}
 use Rattle.std.specs.List.{list_all}
 use Rattle.std.proofs.lemmas.Bool.{and_parts, leb-true}
 use Rattle.std.proofs.lemmas.List.Elements.{All-cons, All-nil}
 use Rattle.cell_model.specs.declared.table.TableDecl.{TableDecl}
 use Rattle.cell_model.specs.Schemas.{IsSchema, begins_with_key, first_twins, most_columns, most_slots_of, row_bits}
-use Rattle.engine_core.specs.Core.{MayOpen}
+use Rattle.shared_store.specs.Building.{IsFirstFull, MayOpen}
 use Rattle.event_spec.specs.Parts.{Shape}
 use Rattle.event_spec.specs.Sound.{IsShape}
 use Rattle.isolation_spec.specs.Contents.{History}
 use Rattle.run_spec.specs.Ran.{IsRunnable, shape_of}
 use Rattle.script_text.proofs.Schemas.{all_named}
+use Rattle.store_rounds.specs.Crews.{crew_of}
+use Rattle.store_rounds.specs.Prepared.{begun_with}
+use Rattle.store_rounds.specs.declared.crew.Crew.{Crew}
 use Rattle.workload_spec.specs.declared.script.Line.{Line}
 use Rattle.workload_spec.specs.declared.script.Script.{Script}
-use Rattle.workload_spec.specs.Valid.{IsWritten, all_lines, are_blocks, are_columns, are_slots, has_head, have_own_names, is_export, is_line, is_name, is_table, is_valid, is_within, least_slots, most_blocks, most_sessions, most_tables, most_turns, most_workers, has_version, is_column}
+use Rattle.workload_spec.specs.Valid.{all_lines, are_blocks, are_columns, are_slots, has_head, have_own_names, is_export, is_line, is_name, is_table, is_valid, is_within, least_slots, most_blocks, most_sessions, most_tables, most_turns, most_workers, has_version, is_column}
 
 -- the parts of a conjunction
 parts_of_four : (a b c d : Bool) → (a && b && c && d) ≡ true → (a ≡ true) × (b ≡ true) × (c ≡ true) × (d ≡ true)
@@ -165,21 +168,43 @@ may_open script valid =
       slots = each (λ table. 1 ≤ table.slots) (λ table has. has.some_slots);
     }
 
--- ---- a script as it is written
+-- ---- a store that was built for a script
 
-module _ (script whole : Script) (same : whole ≡ script) (written : IsWritten script) where
-  -- a store that was built for it has its shape
-  pub shape_built : (tables : List TableDecl) (shape : Shape) → tables ≡ script.tables
-      → shape ≡ record { tables = tables; passes = script.sessions + script.workers; first = [] } → shape ≡ shape_of whole
-  shape_built tables shape own is =
-      is
-      ∙ ap (λ (its : List TableDecl). record { tables = its; passes = script.sessions + script.workers; first = [] }) own
-      ∙ ap (λ (first : History). record { tables = script.tables; passes = script.sessions + script.workers; first = first }) (sym written.begun)
-      ∙ ap shape_of (sym same)
+-- a store that was built for it has its shape
+pub shape_built : (script : Script) (tables : List TableDecl) (crew : Crew) (shape : Shape) → tables ≡ script.tables → crew ≡ crew_of script
+    → shape ≡ record { tables = tables; passes = crew.sessions + crew.workers; first = script.begun } → shape ≡ shape_of script
+shape_built script tables crew shape own is made =
+    made
+    ∙ ap (λ (its : List TableDecl). record { tables = its; passes = crew.sessions + crew.workers; first = script.begun }) own
+    ∙ ap (λ (crew : Crew). record { tables = script.tables; passes = crew.sessions + crew.workers; first = script.begun }) is
 
-  -- and can run it
-  pub runs_built : (shape : Shape) → shape ≡ shape_of whole → IsShape shape → IsRunnable whole
-  runs_built shape is measures = record {
-    valid = ap is_valid same ∙ written.valid;
-    shape = subst IsShape is measures;
-  }
+-- and can run it
+pub runs_built : (script : Script) (shape : Shape) → is_valid script ≡ true → shape ≡ shape_of script → IsShape shape → IsRunnable script
+runs_built script shape valid is measures = record {
+  valid = valid;
+  shape = subst IsShape is measures;
+}
+
+-- a store may be built for its crew
+pub may_build : (script : Script) (tables : List TableDecl) (crew : Crew) → is_valid script ≡ true → tables ≡ script.tables → crew ≡ crew_of script → MayOpen tables (crew.sessions + crew.workers)
+may_build script tables crew valid own is =
+    subst (λ (crew : Crew). MayOpen tables (crew.sessions + crew.workers)) (sym is)
+    (subst (λ (its : List TableDecl). MayOpen its (script.sessions + script.workers)) (sym own) (may_open script valid))
+
+-- a crew has a session
+pub crew_some : (script : Script) (crew : Crew) → is_valid script ≡ true → crew ≡ crew_of script → 1 ≤ crew.sessions + crew.workers
+crew_some script crew valid is =
+    let some : 1 ≤ script.sessions = has_sessions script valid in
+    let same : crew.sessions ≡ script.sessions = ap (λ (crew : Crew). crew.sessions) is in
+    omega (arith, some, same)
+
+-- a script stays valid, whatever commits its store begins with
+pub begun_valid : (first : History) (script : Script) → is_valid script ≡ true → is_valid (begun_with first script) ≡ true
+begun_valid first script valid = valid
+
+-- a table that has no room in the shape of which a store was to be built has none in the script's
+pub full_built : (first : History) (script whole : Script) (tables : List TableDecl) (crew : Crew) (table : ℕ) → whole ≡ begun_with first script → tables ≡ whole.tables → crew ≡ crew_of whole
+    → IsFirstFull (record { tables = tables; passes = crew.sessions + crew.workers; first = whole.begun }) table → IsFirstFull (shape_of (begun_with first script)) table
+full_built first script whole tables crew table same own is full =
+    subst (λ (shape : Shape). IsFirstFull shape table)
+    (shape_built whole tables crew (record { tables = tables; passes = crew.sessions + crew.workers; first = whole.begun }) own is refl ∙ ap shape_of same) full

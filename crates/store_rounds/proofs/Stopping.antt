@@ -15,20 +15,23 @@ use Rattle.workload_spec.specs.declared.reply.Who.TheVariants.{Session as TheSes
 use Rattle.workload_spec.specs.declared.script.Line.{Line}
 use Rattle.workload_spec.specs.declared.script.Script.{Script}
 use Rattle.run_spec.specs.Calls.{Call}
-use Rattle.run_spec.specs.Ran.{IsRunnable, Share}
+use Rattle.run_spec.specs.Ran.{IsRunnable, RoundRun, Share}
 use Rattle.run_laws.proofs.Rounds.Fronts.{first_lines_are_so, first_lines_ask, fronts_are_valid}
 use Rattle.run_laws.specs.Rounds.Fronts.{AreFirstLines, first_lines, lines_of}
 use Rattle.run_laws.specs.Rounds.Lines.{round_text, rounds_text}
 use Rattle.shared_store.specs.Store.{StoreView}
 use Rattle.shared_store.specs.declared.session.Session.{Session}
 use Rattle.store_rounds.specs.Crews.{crew_of, crew_shares, shares_of}
-use Rattle.store_rounds.specs.Rounds.{AskedUpToExport, CallsStopAtExport, NotBegun, OneEndsAtExport, RanToExport, RanUnshown, RoundStops}
+use Rattle.store_rounds.specs.Rounds.{AskedUpToExport, CallsStopAtExport, NotBegun, OneEndsAtExport, RanToExport, RoundStops}
 use Rattle.store_rounds.specs.Runs.{RunsIn}
 use Rattle.store_rounds.specs.Worked.{EndsAtExport, asked_in, share_of}
-use Rattle.store_rounds.specs.Workloads.{LinesEndAtExport, GoesPart, GoesTo, ToldMemory}
+use Rattle.store_rounds.specs.Grouped.{MayHaveHandedOver}
+use Rattle.store_rounds.specs.Logging.{IsTooLong, OfLogged}
+use Rattle.store_rounds.specs.Workloads.{LinesEndAtExport, GoesPart, GoesTo, GoesTooLong, GoesUnshown, ToldMemory}
 use Rattle.store_rounds.specs.declared.fault.RunFault.{RunFault}
 use Rattle.store_rounds.specs.declared.fault.RunFault.TheVariants as fault
 use Rattle.store_rounds.proofs.Duties.{two_counted}
+use Rattle.store_rounds.proofs.HandedOver.{standing_stays}
 use Rattle.store_rounds.proofs.WholeRounds.{ends_exports}
 use Rattle.store_rounds.proofs.Running.{RoundDone, Running, both, counted_further, more, ran_further, round, round_once, round_within, sent_further, stands_further, text_further, keeps_more, keeps_now}
 use Rattle.store_rounds.proofs.Went.{explained_so_far, went, went_so_far}
@@ -157,15 +160,15 @@ told_memory script calls one =
 module _ (script : Script) (store : StoreView) (old new : List Session) (asked rest : List (List Line)) (before now exported exported_now exported_later : Option (List ℕ)) (number : ℕ) (lines : List Line)
     (valid : IsRunnable script) (split : asked ++ lines ∷ rest ≡ script.rounds)
     (running : Running script store old asked before now exported exported_now number) where
-  module _ (kept : List Line) (done : RoundDone script store old new kept exported_now exported_later) where
+  module _ (kept : List Line) (done : RoundDone script store old new kept exported_now exported_later) (row : List Session) (Logs : OfLogged) where
     abbrev these : List Share
     these = crew_shares (crew_of script) done.calls
 
     goes_to : AreFirstLines kept lines
-        → RunsIn script store new exported exported_later (asked ++ kept ∷ [])
-        (both script store old new asked before now exported exported_now exported_later number running kept done)
+        → RunsIn script store row exported exported_later Logs (asked ++ kept ∷ [])
+        (both script store old new asked before now exported exported_now exported_later number running kept done) (length running.rounds)
         (rounds_text script.tables 1 (both script store old new asked before now exported exported_now exported_later number running kept done))
-        → GoesTo (RunsIn script store new exported exported_later) script kept before now
+        → GoesTo (RunsIn script store row exported exported_later Logs) script kept before now
     goes_to first went = record {
       whole = asked;
       round = lines;
@@ -179,13 +182,13 @@ module _ (script : Script) (store : StoreView) (old new : List Session) (asked r
       of_round = ap (λ n. round_text script.tables (n + 1) these) running.asked_count;
       explained_shown = explained_so_far script running.rounds running.finished exported exported_now running.counted (keeps_now script store old asked before now exported exported_now number running) running.sent
           asked (lines ∷ rest) (sym split) valid running.ran;
-      went = subst (RunsIn script store new exported exported_later (asked ++ kept ∷ [])
-          (both script store old new asked before now exported exported_now exported_later number running kept done))
+      went = subst (RunsIn script store row exported exported_later Logs (asked ++ kept ∷ [])
+          (both script store old new asked before now exported exported_now exported_later number running kept done) (length running.rounds))
           (text_further script store old new asked before now exported exported_now exported_later number running kept done) went;
       printed = running.printed;
     }
 
-  module _ (did : RanToExport store (crew_of script) old new lines exported_now exported_later) where
+  module _ (did : RanToExport store (crew_of script) old new lines exported_now exported_later) (Logs : OfLogged) where
     abbrev counts : ℕ → ℕ
     counts = counts_of (λ n. did.calls (TheSession n))
 
@@ -201,8 +204,9 @@ module _ (script : Script) (store : StoreView) (old new : List Session) (asked r
       sent = did.sent;
     }
 
-    first_goes : GoesTo (RunsIn script store new exported exported_later) script first before now
-    first_goes = goes_to first first_done (first_lines_are_so counts lines) (record {
+    first_goes : Logs (both script store old new asked before now exported exported_now exported_later number running first first_done) (length running.rounds)
+        → GoesTo (RunsIn script store new exported exported_later Logs) script first before now
+    first_goes logs = goes_to first first_done new Logs (first_lines_are_so counts lines) (record {
       went = went script
           (both script store old new asked before now exported exported_now exported_later number running first first_done)
           (running.finished ++ more script store old new asked before now exported exported_now exported_later number running first first_done)
@@ -213,6 +217,7 @@ module _ (script : Script) (store : StoreView) (old new : List Session) (asked r
           (asked ++ first ∷ []) (record { valid = fronts_are_valid script counts lines asked rest (sym split) valid.valid; shape = valid.shape })
           (ran_further script store old new asked before now exported exported_now exported_later number running first first_done);
       stands = stands_further script store old new asked before now exported exported_now exported_later number running first first_done;
+      logs = logs;
     })
 
     -- a session that stopped has an export among its lines
@@ -268,12 +273,10 @@ module _ (script : Script) (store : StoreView) (old new : List Session) (asked r
             (omega (arith, sizes, some, length-append (lines_of other first) part.0))
 
   -- behind a round that was whole
-  module _ (did : RanUnshown store (crew_of script) old new lines exported_now exported_later) where
-    abbrev all_done : RoundDone script store old new lines exported_now exported_later
-    all_done = record { calls = did.calls; ran = did.ran; asked = did.asked; turned = did.turned; sent = did.sent }
-
-    all_goes : GoesTo (RunsIn script store new exported exported_later) script lines before now
-    all_goes = goes_to lines all_done (λ session. ([], sym (append-nil (lines_of session lines)))) (record {
+  module _ (all_done : RoundDone script store old new lines exported_now exported_later) (row : List Session) (may : MayHaveHandedOver new row) (Logs : OfLogged) where
+    pub all_goes : Logs (both script store old new asked before now exported exported_now exported_later number running lines all_done) (length running.rounds)
+        → GoesTo (RunsIn script store row exported exported_later Logs) script lines before now
+    all_goes logs = goes_to lines all_done row Logs (λ session. ([], sym (append-nil (lines_of session lines)))) (record {
       went = went_so_far script
           (both script store old new asked before now exported exported_now exported_later number running lines all_done)
           (running.finished ++ more script store old new asked before now exported exported_now exported_later number running lines all_done)
@@ -283,14 +286,17 @@ module _ (script : Script) (store : StoreView) (old new : List Session) (asked r
           (sent_further script store old new asked before now exported exported_now exported_later number running lines all_done)
           (asked ++ lines ∷ []) rest (sym split ∙ sym (append_assoc asked (lines ∷ []) rest)) valid
           (ran_further script store old new asked before now exported exported_now exported_later number running lines all_done);
-      stands = stands_further script store old new asked before now exported exported_now exported_later number running lines all_done;
+      stands = standing_stays store (running.finished ++ more script store old new asked before now exported exported_now exported_later number running lines all_done) new row may
+          (stands_further script store old new asked before now exported exported_now exported_later number running lines all_done);
+      logs = logs;
     })
 
   -- before a round that was not begun
-  stops_before : NotBegun old new exported_now exported_later → GoesPart (RunsIn script store new exported exported_later) script fault.Memory before now
-  stops_before none =
-      subst (λ row. GoesPart (RunsIn script store row exported exported_later) script fault.Memory before now) (sym none.same)
-      (subst (λ later. GoesPart (RunsIn script store old exported later) script fault.Memory before now) (sym none.none_sent)
+  stops_before : (Logs : OfLogged) → Logs running.rounds (length running.rounds) → NotBegun old new exported_now exported_later
+      → GoesPart (RunsIn script store new exported exported_later Logs) script fault.Memory before now
+  stops_before Logs logs none =
+      subst (λ row. GoesPart (RunsIn script store row exported exported_later Logs) script fault.Memory before now) (sym none.same)
+      (subst (λ later. GoesPart (RunsIn script store old exported later Logs) script fault.Memory before now) (sym none.none_sent)
       (inl (record {
         whole = asked;
         round = lines;
@@ -301,23 +307,41 @@ module _ (script : Script) (store : StoreView) (old new : List Session) (asked r
         went = record {
           went = went_so_far script running.rounds running.finished exported exported_now running.counted (keeps_now script store old asked before now exported exported_now number running) running.sent asked (lines ∷ rest) (sym split) valid running.ran;
           stands = running.stands;
+          logs = logs;
         };
         printed = running.printed;
       })))
 
   -- a run whose round stops it tells which rounds ran, and how far the last one did
-  pub running_stops : (failed : RunFault) → RoundStops store (crew_of script) old new lines exported_now exported_later failed
-      → GoesPart (RunsIn script store new exported exported_later) script failed before now
-  unfolding first_goes goes_to all_goes
-  running_stops fault.Out stops = absurd stops
-  running_stops fault.Export stops = record {
-    lines = first stops;
-    to = first_goes stops;
+  pub running_stops : (Logs : OfLogged) → Logs running.rounds (length running.rounds) → ((round : RoundRun) → Logs (running.rounds ++ round ∷ []) (length running.rounds))
+      → (failed : RunFault) → RoundStops store (crew_of script) old new lines exported_now exported_later failed
+      → GoesPart (RunsIn script store new exported exported_later Logs) script failed before now
+  unfolding first_goes goes_to
+  running_stops Logs logs short fault.Out stops = absurd stops
+  running_stops Logs logs short fault.Export stops = record {
+    lines = first stops Logs;
+    to = first_goes stops Logs (short (round script store old new asked before now exported exported_now exported_later number running (first stops Logs) (first_done stops Logs)));
     session = stops.last.place + 1;
-    last = ends_at_export stops.last.place (stops.calls (TheSession (stops.last.place + 1))) (first stops)
-        ((first_done stops).asked stops.last.place stops.last.within) stops.last.ends;
+    last = ends_at_export stops.last.place (stops.calls (TheSession (stops.last.place + 1))) (first stops Logs)
+        ((first_done stops Logs).asked stops.last.place stops.last.within) stops.last.ends;
     told = told_memory script stops.calls stops.last;
-    others = others stops;
+    others = others stops Logs;
   }
-  running_stops fault.Memory (inl none) = stops_before none
-  running_stops fault.Memory (inr did) = inr (record { lines = lines; to = all_goes did; whole = refl })
+  running_stops Logs logs short fault.Memory stops = stops_before Logs logs stops
+  running_stops Logs logs short fault.Log stops = absurd stops
+  running_stops Logs logs short fault.GroupTooLong stops = absurd stops
+
+  -- A run that stops behind a round which was whole tells so.
+  pub running_unshown : (all_done : RoundDone script store old new lines exported_now exported_later) (row : List Session) (may : MayHaveHandedOver new row) (Logs : OfLogged)
+      → Logs (both script store old new asked before now exported exported_now exported_later number running lines all_done) (length running.rounds)
+      → GoesUnshown (RunsIn script store row exported exported_later Logs) script before now
+  unfolding all_goes goes_to
+  running_unshown all_done row may Logs logs = record { lines = lines; to = all_goes all_done row may Logs logs; whole = refl }
+
+  -- So does one whose commits are too long for a record of the log.
+  pub running_too_long : (all_done : RoundDone script store old new lines exported_now exported_later) (row : List Session) (may : MayHaveHandedOver new row) (Logs : OfLogged)
+      → Logs (both script store old new asked before now exported exported_now exported_later number running lines all_done) (length running.rounds)
+      → IsTooLong script running.rounds (round script store old new asked before now exported exported_now exported_later number running lines all_done)
+      → GoesTooLong (RunsIn script store row exported exported_later Logs) script before now
+  unfolding running_unshown all_goes goes_to
+  running_too_long all_done row may Logs logs long = record { unshown = running_unshown all_done row may Logs logs; long = long }

@@ -21,9 +21,9 @@ use Rattle.shared_store.specs.declared.session.Session.{Session}
 use Rattle.store_rounds.specs.Turns.{most_of_turn}
 use Rattle.store_rounds.specs.Answered.{SentBy, most_events}
 use Rattle.store_rounds.specs.Crews.{calls_of, crew_calls, crew_shares, shares_of, turns_in}
-use Rattle.store_rounds.specs.Duties.{AreDuties, IsNew, duties_text, is_cut, is_whole, is_whole_end}
+use Rattle.store_rounds.specs.Duties.{AreDuties, IsNew, duties_text, is_cut, is_lost, is_whole, is_whole_end}
 use Rattle.store_rounds.specs.Row.{AreSessions, Met}
-use Rattle.store_rounds.specs.Rounds.{AllTurned, AreNumbered, AskedAll, AskedUpToExport, OneEndsAtExport, RanRound, RanUnshown, RoundStops, RowRan, CallsStopAtExport}
+use Rattle.store_rounds.specs.Rounds.{AllTurned, AreNumbered, AskedAll, AskedUpToExport, OneEndsAtExport, RanRound, RanToExport, RowRan, CallsStopAtExport}
 use Rattle.store_rounds.specs.Served.{CarriedOut, RowServed, ServedBy, is_of_worker, most_of_task, asked_of_task, who_of}
 use Rattle.store_rounds.specs.Worked.{EndsAtExport, Worked, asked_in, share_of}
 use Rattle.store_rounds.specs.declared.crew.Crew.{Crew}
@@ -31,8 +31,7 @@ use Rattle.store_rounds.specs.declared.duty.Duty.{Duty}
 use Rattle.store_rounds.specs.declared.duty.Task.{Task}
 use Rattle.store_rounds.specs.declared.duty.Task.TheVariants as task
 use Rattle.store_rounds.specs.declared.fault.RunFault.{RunFault}
-use Rattle.store_rounds.specs.declared.fault.RunFault.TheVariants as fault
-use Rattle.store_rounds.proofs.Duties.{Stopped, Whole, by_memory, by_outlet, duties_size, of_session_at, of_worker_at}
+use Rattle.store_rounds.proofs.Duties.{duties_size, of_session_at, of_worker_at}
 use Rattle.store_rounds.proofs.Quiet.{asks_none, none_at, none_of_both}
 use Rattle.store_rounds.proofs.Ranges.{any_default, any_of, flat_at, flat_split, joined, joined_back, joined_flat, joined_front, shifted, some_place}
 use Rattle.store_rounds.proofs.Runs.{Place, of_session, of_worker, place}
@@ -204,8 +203,8 @@ module _ (store : StoreView) (crew : Crew) (round : ℕ) (lines : List Line) (ol
       served.sent
 
   -- the text of all
-  text_is : Whole after → duties_text after ≡ round_text tables round (crew_shares crew by_who)
-  text_is whole =
+  text_is : list_any is_lost after ≡ false → duties_text after ≡ round_text tables round (crew_shares crew by_who)
+  text_is none_lost =
       let first : ℕ → List ℕ = λ n. share_text tables round (share_of (TheSession n) (served.calls n)) in
       let second : ℕ → List ℕ = λ n. share_text tables round (share_of (TheWorker n) (served.calls (crew.sessions + n))) in
       let sizes = duties_size crew round lines before are in
@@ -219,7 +218,7 @@ module _ (store : StoreView) (crew : Crew) (round : ℕ) (lines : List Line) (ol
       ∙ sym (flat_map-append (share_text tables round) (shares_of TheSession crew.sessions served.calls) (shares_of TheWorker crew.workers (λ n. served.calls (crew.sessions + n))))
     where
       whole_at : (k : ℕ) (e : Duty) → k < length after → is_whole (get_or after k e) ≡ true
-      whole_at k e within = not-false (is_whole (get_or after k e)) (none_at (λ (duty : Duty). not (is_whole duty)) after whole.none_lost k e within)
+      whole_at k e within = not-false (is_whole (get_or after k e)) (none_at is_lost after none_lost k e within)
 
       each : (k : ℕ) (e : Duty) → k < length after
           → (get_or after k e).lines.text.items
@@ -278,27 +277,17 @@ module _ (store : StoreView) (crew : Crew) (round : ℕ) (lines : List Line) (ol
       };
     }
 
-    -- a round whose duties all came to their end ran, and then all met
-    pub ran_round : Whole after → RanRound store round crew old new lines (duties_text after) exported exported_now
-    ran_round whole = record {
+    -- a round of whose duties none was cut off ran, and then all met
+    pub ran_round : list_any is_cut after ≡ false → RanRound store round crew old new lines after exported exported_now
+    ran_round none = record {
       calls = by_who;
       ran = row_ran;
-      asked = asked_all whole.none_cut;
+      asked = asked_all none;
       turned = turned;
-      text_is = text_is whole;
+      text_is = text_is;
       sent = sent;
     }
 
-    ran_unshown : list_any is_cut after ≡ false → RanUnshown store crew old new lines exported exported_now
-    ran_unshown none = record { calls = by_who; ran = row_ran; asked = asked_all none; turned = turned; sent = sent }
-
-    -- a round with a duty that stopped ends as its fault tells
-    pub ran_in_part : (failed : RunFault) → Stopped after failed → RoundStops store crew old new lines exported exported_now failed
-    ran_in_part failed (by_outlet is cut) = subst (RoundStops store crew old new lines exported exported_now) (sym is)
-        (record { calls = by_who; ran = row_ran; asked = asked_up_to; turned = turned; sent = sent; last = one_ends cut })
-    ran_in_part failed (by_memory is none) = subst (RoundStops store crew old new lines exported exported_now) (sym is)
-        (inr (ran_unshown none))
-
-    -- where there was no memory for the text
-    pub text_lost : Whole after → RoundStops store crew old new lines exported exported_now fault.Memory
-    text_lost whole = inr (ran_unshown whole.none_cut)
+    -- one with a duty that was ended at an export
+    pub ran_to_export : list_any is_cut after ≡ true → RanToExport store crew old new lines exported exported_now
+    ran_to_export cut = record { calls = by_who; ran = row_ran; asked = asked_up_to; turned = turned; sent = sent; last = one_ends cut }

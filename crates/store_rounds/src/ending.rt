@@ -47,9 +47,14 @@ pub(crate) fn end_round<D: Disk>(
     if !fits(group.as_slice()) {
         return Err(RunFault::GroupTooLong);
     }
-    let text = whole_text(alloc, duties)?;
-    add_group(alloc, group.as_slice(), log, disk)?;
-    Ok(text)
+    let text = match whole_text(alloc, duties) {
+        Ok(text) => text,
+        Err(fault) => return Err(fault),
+    };
+    match add_group(alloc, group.as_slice(), log, disk) {
+        Ok(()) => Ok(text),
+        Err(fault) => Err(fault),
+    }
 }
 
 /// Adds the commits of a round to a log, if there are some.

@@ -262,11 +262,17 @@ fn run_left<R: Wait + Threads + Sync, O: Sink, X: Sink, D: Disk, G: Gate>(
     let mut number = 0;
     for round in take_all(left).into_vec() {
         number += 1;
-        let duties = run_round(
+        let duties = match run_round(
             rt, server, store, desks, stations, number, crew, at_once, row, round, outlet,
-        )?;
+        ) {
+            Ok(duties) => duties,
+            Err(fault) => return Err(fault),
+        };
         let sessions = crew.sessions as usize;
-        let text = end_round(server.alloc, sessions, row, duties, log, disk)?;
+        let text = match end_round(server.alloc, sessions, row, duties, log, disk) {
+            Ok(text) => text,
+            Err(fault) => return Err(fault),
+        };
         if let Err(Failed) = write_all(out, text.as_slice()) {
             return Err(RunFault::Out);
         }

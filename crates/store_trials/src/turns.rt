@@ -1,5 +1,6 @@
 //! Turns over a table whose first block fills, cools, freezes, is thawed and is compacted.
 ghost use Rattle.std.specs.Prelude.{◌≡◌, ◌≤◌, ◌^◌, [], IfOk, OnOk, length, true};
+ghost use Rattle.cell_model.specs.Schemas.{IsSchema};
 ghost use Rattle.event_spec.specs.Lawful.{HasBlock};
 ghost use Rattle.shared_store.specs.Building.{MayOpen};
 ghost use Rattle.shared_store.specs.Store.{HasRoomFor, IsSession, MakesAtMost, shape_in};
@@ -113,6 +114,27 @@ const CASES: [Case; 9] = [
     },
 ];
 
+/// A table of keys alone, of so many blocks of so many rows.
+pub(crate) fn table(alloc: Global, slots: u32, blocks: u32) -> Result<TableDecl, Fail>
+    ensures schema { IfOk result (λ table. IsSchema table.schema) }
+    ensures slots { IfOk result (λ table. table.slots ≡ slots) }
+    ensures blocks { IfOk result (λ table. table.blocks ≡ blocks) }
+{
+    let key = Column {
+        name: Bytes::from_slice(alloc, b"key".as_slice())?,
+        kind: Kind::I64,
+        nullable: false,
+    };
+    let schema = Schema::new(vec![in alloc; key]?)?;
+    let _columns = schema.columns();
+    Ok(TableDecl {
+        name: Bytes::from_slice(alloc, b"a".as_slice())?,
+        schema,
+        slots,
+        blocks,
+    })
+}
+
 /// A table of keys alone, of two blocks of eight rows.
 fn tables(alloc: Global) -> Result<Vec<TableDecl>, Fail>
     ensures may_open { IfOk result (λ tables. MayOpen tables.items 3) }
@@ -122,19 +144,7 @@ fn tables(alloc: Global) -> Result<Vec<TableDecl>, Fail>
         HasBlock (record { tables = tables.items; passes = 3; first = [] }) 0 1) }
     ensures known { IfOk result (λ tables. is_block_of tables.items 0 0 ≡ true) }
 {
-    let key = Column {
-        name: Bytes::from_slice(alloc, b"key".as_slice())?,
-        kind: Kind::I64,
-        nullable: false,
-    };
-    let schema = Schema::new(vec![in alloc; key]?)?;
-    let _columns = schema.columns();
-    let table = TableDecl {
-        name: Bytes::from_slice(alloc, b"a".as_slice())?,
-        schema,
-        slots: 8,
-        blocks: 2,
-    };
+    let table = table(alloc, 8, 2)?;
     Ok(vec![in alloc; table]?)
 }
 
@@ -190,6 +200,30 @@ pub(crate) fn write<R: Wait>(
     }
 }
 
+/// Carries out some writes in the open transaction, or in one that it begins.
+pub(crate) fn write_open<R: Wait>(
+    rt: &R,
+    alloc: Global,
+    store: &Store,
+    session: &mut Session,
+    writes: &[Change],
+) -> Result<(), Fail>
+    requires session { IsFreeSession store.now session.old }
+    requires room { HasRoomFor (2 ^ 9) session.old }
+    requires table { 1 ≤ length (shape_in store.now).tables }
+    ensures session { OnOk result (IsFreeSession store.now session.new) }
+    ensures few { OnOk result (MakesAtMost (2 ^ 9) session.old session.new) }
+{
+    if writes.len() > MOST {
+        return Err(Fail::from("too many writes"));
+    }
+    store.begin(rt, session).ok();
+    for change in writes {
+        write(rt, alloc, store, session, *change)?;
+    }
+    Ok(())
+}
+
 /// Carries out some writes in a transaction, and commits it.
 fn write_all<R: Wait>(
     rt: &R,
@@ -204,13 +238,7 @@ fn write_all<R: Wait>(
     ensures session { OnOk result (IsFreeSession store.now session.new) }
     ensures few { OnOk result (MakesAtMost (2 ^ 10) session.old session.new) }
 {
-    if writes.len() > MOST {
-        return Err(Fail::from("too many writes"));
-    }
-    store.begin(rt, session).ok();
-    for change in writes {
-        write(rt, alloc, store, session, *change)?;
-    }
+    write_open(rt, alloc, store, session, writes)?;
     if !session.busy() {
         return Err(Fail::from("no transaction"));
     }

@@ -1,11 +1,12 @@
 use Rattle.std.proofs.Common.{ℕ, List, sym, ap, ◌∙◌, subst, arith}
-use Rattle.store_rounds.specs.Duties.{duties_text, fault_of}
+use Rattle.std.specs.List.{list_any}
+use Rattle.store_rounds.specs.Duties.{is_cut}
 use Rattle.store_rounds.specs.Rounds.{RanRound}
 use Rattle.store_rounds.specs.Served.{MayServeRow, OneExportsAtMost, RowServed}
 use Rattle.store_rounds.specs.declared.duty.Duty.{Duty}
-use Rattle.store_rounds.proofs.Duties.{export_once, fault_is, may_serve_row, no_fault}
+use Rattle.store_rounds.proofs.Duties.{export_once, may_serve_row}
 use Rattle.store_rounds.proofs.Ranges.{written_over}
-use Rattle.store_rounds.proofs.WholeRounds.{ended_sessions, ran_in_part, ran_round, text_lost}
+use Rattle.store_rounds.proofs.WholeRounds.{ended_sessions, ran_round, ran_to_export}
 use Rattle.store_rounds.proofs.round.run_round.Goals as goal
 
 pub duties_of-requires-clause-size : goal.duties_of-requires-clause-size
@@ -30,34 +31,24 @@ meet_all-requires-clause-sessions g c =
     (subst (λ (before : List Duty). RowServed c.args.store.now c.args.row.now c.serve_row.new.row before c.serve_row.new.duties
     (g.X.Sink.written c.args.outlet.now) (g.X.Sink.written c.serve_row.new.outlet)) c.as_mut_slice.ensures.value c.serve_row.ensures.served)
 
-pub returns-in-Some-clause-part : goal.returns-in-Some-clause-part
-returns-in-Some-clause-part g c =
+pub returns-then-any_is_cut-clause-part : goal.returns-then-any_is_cut-clause-part
+returns-then-any_is_cut-clause-part g c =
     let served = subst (λ (before : List Duty). RowServed c.args.store.now c.args.row.now c.serve_row.new.row before c.serve_row.new.duties
     (g.X.Sink.written c.args.outlet.now) (g.X.Sink.written c.serve_row.new.outlet)) c.as_mut_slice.ensures.value c.serve_row.ensures.served in
     let after = written_over c.serve_row.new.duties c.in-Ok.duties.items c.in-Ok.duties.len (omega (arith, c.in-Ok.duties.ok.0, c.in-Ok.duties.ok.1)) served.duties in
-    ran_in_part c.args.store.now c.args.crew c.args.number c.args.round c.args.row.now c.serve_row.new.row c.meet_all.new.row
+    ran_to_export c.args.store.now c.args.crew c.args.number c.args.round c.args.row.now c.serve_row.new.row c.meet_all.new.row
     c.in-Ok.duties.items c.serve_row.new.duties (g.X.Sink.written c.args.outlet.now) (g.X.Sink.written c.serve_row.new.outlet)
-    c.requires.size c.requires.some c.requires.numbers c.in-Ok.ensures served c.meet_all.ensures c.in-Some.fault
-    (fault_is c.serve_row.new.duties c.in-Some.fault (ap fault_of (sym (c.as_slice.ensures.value ∙ after)) ∙ sym c.fault_of.ensures ∙ c.in-Some.is))
+    c.requires.size c.requires.some c.requires.numbers c.in-Ok.ensures served c.meet_all.ensures
+    (ap (list_any is_cut) (sym (c.as_slice.ensures.value ∙ after)) ∙ sym c.any_is_cut.ensures ∙ c.if-any_is_cut.true)
 
-pub returns-in-Ok-text_of-clause-whole : goal.returns-in-Ok-text_of-clause-whole
-returns-in-Ok-text_of-clause-whole g c =
+pub returns-clause-whole : goal.returns-clause-whole
+returns-clause-whole g c =
     let served = subst (λ (before : List Duty). RowServed c.args.store.now c.args.row.now c.serve_row.new.row before c.serve_row.new.duties
     (g.X.Sink.written c.args.outlet.now) (g.X.Sink.written c.serve_row.new.outlet)) c.as_mut_slice.ensures.value c.serve_row.ensures.served in
     let after = written_over c.serve_row.new.duties c.in-Ok.duties.items c.in-Ok.duties.len (omega (arith, c.in-Ok.duties.ok.0, c.in-Ok.duties.ok.1)) served.duties in
-    subst (λ (text : List ℕ). RanRound c.args.store.now c.args.number c.args.crew c.args.row.now c.meet_all.new.row c.args.round text
-    (g.X.Sink.written c.args.outlet.now) (g.X.Sink.written c.serve_row.new.outlet)) (sym (c.in-Ok-text_of.ensures ∙ ap duties_text after))
+    subst (λ (duties : List Duty). RanRound c.args.store.now c.args.number c.args.crew c.args.row.now c.meet_all.new.row c.args.round duties
+    (g.X.Sink.written c.args.outlet.now) (g.X.Sink.written c.serve_row.new.outlet)) (sym after)
     (ran_round c.args.store.now c.args.crew c.args.number c.args.round c.args.row.now c.serve_row.new.row c.meet_all.new.row
     c.in-Ok.duties.items c.serve_row.new.duties (g.X.Sink.written c.args.outlet.now) (g.X.Sink.written c.serve_row.new.outlet)
     c.requires.size c.requires.some c.requires.numbers c.in-Ok.ensures served c.meet_all.ensures
-    (no_fault c.serve_row.new.duties (ap fault_of (sym (c.as_slice.ensures.value ∙ after)) ∙ sym c.fault_of.ensures ∙ c.in_default-fault_of.is)))
-
-pub returns-in-Err-clause-part : goal.returns-in-Err-clause-part
-returns-in-Err-clause-part g c =
-    let served = subst (λ (before : List Duty). RowServed c.args.store.now c.args.row.now c.serve_row.new.row before c.serve_row.new.duties
-    (g.X.Sink.written c.args.outlet.now) (g.X.Sink.written c.serve_row.new.outlet)) c.as_mut_slice.ensures.value c.serve_row.ensures.served in
-    let after = written_over c.serve_row.new.duties c.in-Ok.duties.items c.in-Ok.duties.len (omega (arith, c.in-Ok.duties.ok.0, c.in-Ok.duties.ok.1)) served.duties in
-    text_lost c.args.store.now c.args.crew c.args.number c.args.round c.args.row.now c.serve_row.new.row c.meet_all.new.row
-    c.in-Ok.duties.items c.serve_row.new.duties (g.X.Sink.written c.args.outlet.now) (g.X.Sink.written c.serve_row.new.outlet)
-    c.requires.size c.requires.some c.requires.numbers c.in-Ok.ensures served c.meet_all.ensures
-    (no_fault c.serve_row.new.duties (ap fault_of (sym (c.as_slice.ensures.value ∙ after)) ∙ sym c.fault_of.ensures ∙ c.in_default-fault_of.is))
+    (ap (list_any is_cut) (sym (c.as_slice.ensures.value ∙ after)) ∙ sym c.any_is_cut.ensures ∙ c.if-any_is_cut.false))

@@ -1,4 +1,4 @@
-use Rattle.std.proofs.Common.{sym, ap, ◌∙◌, subst}
+use Rattle.std.proofs.Common.{sym, ap, subst}
 use Rattle.engine_core.proofs.Wholes.{has_slots, opening_is, opening_whole, shape_is}
 use Rattle.std.proofs.lemmas.Result.{err_from_is_err_and}
 use Rattle.core_parts.specs.FirstRows.{IsFirstFull}

@@ -37,9 +37,9 @@ returns g c =
     let mine : IsOfSession s.session c.ending-event.result = inl (ap session_of c.ending-event.ensures ∙ ap Some owns.0) in
     let m = subst (λ (e : CoreEvent). Makes c.args.self.now s.session s.pass.seat c.make_at_desk.new.pass.seat c.make_at_desk.new.pass.hands (own_of s) e c.make_at_desk.result) c.ending-event.ensures
     (c.make_at_desk.ensures s.session (own_of s) c.requires.session.stands mine) in
-    let new : Session = record { pass = c.make_at_desk.new.pass; session = s.session; snapshot = None; writes = s.writes; reads = c.forget.new.self; kept = c.abort-kept.new.self } in
+    let new : Session = record { pass = c.make_at_desk.new.pass; session = s.session; snapshot = None; writes = s.writes; reads = c.forget.new.self; kept = c.abort.new.self } in
     let both = one_event c.args.self.now s new command.Abort (event.Abort t) c.make_at_desk.result said.Aborted c.requires.session refl m refl refl c.forget.ensures
-    (wrote_abort t c.make_at_desk.result s.session c.abort-kept.new.self (wrote_of s) c.abort-kept.ensures)
+    (wrote_abort t c.make_at_desk.result s.session c.abort.new.self (wrote_of s) c.abort.ensures)
     (subst (ReadsFit (shape_in c.args.self.now)) (sym c.forget.ensures) tt)
     (ap (refusal_of command.Abort) c.own_all-own.ensures) (λ made. ap (λ (o : Option OwnTransaction). events_of (shape_in c.args.self.now) o s.reads s.session command.Abort made) c.own_all-own.ensures)
     (subst (λ (r : CoreReply). TellsLine (own_of s) command.Abort r said.Aborted) (sym c.in-Aborted.is) refl) in

@@ -69,9 +69,9 @@ returns-in-Committed g c =
     let t = c.own_all-own.result in
     let at' = (goal.at.returns-in-Committed g c).After-ending-event in
     let m = makes g (goal.at.returns-in-Committed g c).After-make_at_desk (is_commit g at') (mine g at') in
-    let new : Session = record { pass = c.make_at_desk.new.pass; session = s.session; snapshot = None; writes = s.writes; reads = c.forget.new.self; kept = c.commit-kept.new.self } in
+    let new : Session = record { pass = c.make_at_desk.new.pass; session = s.session; snapshot = None; writes = s.writes; reads = c.forget.new.self; kept = c.commit.new.self } in
     let both = one_event st s new command.Commit (event.Commit t (reads_of s)) c.make_at_desk.result (said.Committed c.in-Committed.number) c.requires.session refl m refl
-    (ap (Rattle.run_spec.specs.Opened.committed_by (own_of s)) (sym c.in-Committed.is)) c.forget.ensures (wrote_commit t (reads_of s) c.in-Committed.number c.make_at_desk.result c.in-Committed.is s.session c.commit-kept.new.self (wrote_of s) c.commit-kept.ensures) (subst (ReadsFit (shape_in st)) (sym c.forget.ensures) tt)
+    (ap (Rattle.run_spec.specs.Opened.committed_by (own_of s)) (sym c.in-Committed.is)) c.forget.ensures (wrote_commit t (reads_of s) c.in-Committed.number c.make_at_desk.result c.in-Committed.is s.session c.commit.new.self (wrote_of s) c.commit.ensures) (subst (ReadsFit (shape_in st)) (sym c.forget.ensures) tt)
     (ap (refusal_of command.Commit) c.own_all-own.ensures) (λ made. ap (λ (o : Option OwnTransaction). events_of (shape_in st) o (reads_of s) s.session command.Commit made) c.own_all-own.ensures)
     (subst (λ (r : CoreReply). TellsLine (own_of s) command.Commit r (said.Committed c.in-Committed.number)) (sym c.in-Committed.is) refl) in
     let count = m.count in

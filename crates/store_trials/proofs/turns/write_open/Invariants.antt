@@ -1,7 +1,7 @@
 use Rattle.std.proofs.Common.{◌≤◌, ◌+◌, ◌*◌}
 use Rattle.shared_store.specs.Store.{events_made}
 use Rattle.store_rounds.specs.Sessions.{IsFreeSession}
-use Rattle.store_trials.proofs.turns.write_all.Given as goal
+use Rattle.store_trials.proofs.turns.write_open.Given as goal
 
 abbrev pub invariant-loop-change : goal.invariant-loop-change
 invariant-loop-change g l = record {
