@@ -1,5 +1,5 @@
 -- How a run with a log ends, by what stands behind the opening of the log; and one without.
-use Rattle.std.proofs.Common.{◌≡◌, ◌≢◌, ℕ, true, false, List, [], Option, None, Some, refl, sym, subst, inl, inr}
+use Rattle.std.proofs.Common.{◌≡◌, ◌≢◌, ◌⊎◌, ℕ, Bool, true, false, List, [], Option, None, Some, refl, sym, subst, inl, inr}
 use Rattle.std.specs.Option.{ForSome}
 use Rattle.std.specs.Io.KnownBytes.{Appends}
 use Rattle.byte_ports.specs.Calls.{AppendsFront}
@@ -12,7 +12,7 @@ use Rattle.store_rounds.specs.Prepared.{IsFirstFull, begun_with}
 use Rattle.workload_spec.specs.declared.script.Script.{Script}
 use Rattle.program.specs.Outcome.{Begins, HasNoLog, IsBuilt, IsLogFull, IsStartedFor, LeavesOutlet, LogKeeps, OfDisk, Outside, RoundsEnd, ScriptEnds, log_too_large}
 use Rattle.program.specs.Played.{LineEnds}
-use Rattle.program.specs.Runs.{BuiltEnds, FindsNoSlots, NoLog, OpenedEnds, UnloggedEnds}
+use Rattle.program.specs.Runs.{BuiltEnds, FindsNoRoom, FindsNoSlots, NoLog, OpenedEnds, UnloggedEnds}
 use Rattle.program.specs.declared.status.Status.{Status}
 use Rattle.program.specs.declared.status.Status.TheVariants as status
 use Rattle.program.proofs.Played.{rounds_told}
@@ -113,6 +113,14 @@ unlogged_built path Logs script other ended before now is runnable ends = inl (r
 -- ---- behind the opening
 
 module _ (path : Option (List ℕ)) (Same : Type 0) (Logs : Script → OfLogged) (script : Script) (ended : Status) (before now : Outside) where
+  -- the rounds of a run with a log, over a store that was built for its workload
+  pub opened_built : (other : Script) → other ≡ script → IsRunnable script → RoundsEnd path true (Logs other) other ended before now
+      → OpenedEnds path Same (Logs script) script ended before now
+  opened_built other is runnable ends = inl (record {
+    runnable = runnable;
+    ends = subst (λ (s : Script). RoundsEnd path true (Logs s) s ended before now) is ends;
+  })
+
   -- a log that is too large
   pub too_large_ends : (table : ℕ) → IsFirstFull (shape_of script) table → Same → LeavesOutlet before now → ended ≢ status.Memory
       → LineEnds status.LogFull log_too_large ended before.printed now.printed → OpenedEnds path Same (Logs script) script ended before now
