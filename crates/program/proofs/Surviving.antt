@@ -1,6 +1,6 @@
 -- That the rounds of a run survive on its disk, by what stands behind the opening of its log.
-use Rattle.std.proofs.Common.{◌≡◌, ◌⊎◌, ◌∙◌, ℕ, ◌≤◌, ◌+◌, List, [], ◌∷◌, length, add-one, Option, None, Some, true, inl, inr, refl, sym, ap, subst, append-nil, arith}
-use Rattle.std.specs.Prelude.{IsSome, is_some}
+use Rattle.std.proofs.Common.{◌≡◌, ◌⊎◌, ◌∙◌, ℕ, ◌≤◌, ◌+◌, List, [], ◌∷◌, length, add-one, Option, None, Some, inl, inr, refl, sym, ap, subst, append-nil, arith}
+use Rattle.std.specs.Prelude.{IsSome}
 use Rattle.std.specs.Option.{ForSome}
 use Rattle.commit_log.specs.Commits.{StandsOf}
 use Rattle.commit_log.specs.Readings.{OnlyReads}

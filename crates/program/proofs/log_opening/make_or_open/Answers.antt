@@ -1,4 +1,4 @@
-use Rattle.std.proofs.Common.{◌≡◌, ◌≢◌, ℕ, List, [], length, ap, arith, inl, subst, sym}
+use Rattle.std.proofs.Common.{◌≡◌, length, ap, arith, inl, subst, sym}
 use Rattle.commit_log.specs.Commits.{StandsOf}
 use Rattle.isolation_spec.specs.Contents.{History}
 use Rattle.program.proofs.Surviving.{is_empty, no_bytes}

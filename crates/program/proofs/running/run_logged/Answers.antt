@@ -1,5 +1,5 @@
-use Rattle.std.proofs.Common.{◌≡◌, ◌≢◌, ◌∙◌, ℕ, List, [], Option, Some, Ok, Err, ap, inl, inr, is_err, option_map, refl, subst, sym}
-use Rattle.std.specs.Prelude.{IsErrOf, IsSome}
+use Rattle.std.proofs.Common.{◌≡◌, ◌≢◌, ◌∙◌, List, [], Some, Err, ap, is_err, option_map, refl, subst}
+use Rattle.std.specs.Prelude.{IsErrOf}
 use Rattle.std.specs.Option.{ForSome}
 use Rattle.cell_model.specs.declared.table.TableDecl.{TableDecl}
 use Rattle.commit_log.specs.Commits.{StandsOf}
