@@ -1,7 +1,7 @@
 -- What the words ask for, by what `clap` makes of them.
-use Rattle.std.proofs.Common.{◌≡◌, ◌≢◌, Bool, true, bytes_eq, codes, List, [], ◌∷◌, Option, None, Some, Result, Ok, Err, Box, refl, ap, ap₂, sym, ◌∙◌, subst, option_map, ⊎_elim, IfOk, IsErrOf}
+use Rattle.std.proofs.Common.{◌≡◌, ◌≢◌, true, List, [], ◌∷◌, Option, None, Some, Result, Ok, Err, Box, refl, ap, ap₂, sym, ◌∙◌, subst, option_map, ⊎_elim, IfOk, IsErrOf}
 use Rattle.std.specs.Box.{box_value}
-use Rattle.clap.specs.Words.{App, FailsBy, IsAmong, Kinds, Row, Text, fault_of, first_of, found_of, is_simple, is_simple_and_free, kind_of, rows_of, subcommand_name_of, subcommand_of, subcommand_rows, subcommand_rows_of}
+use Rattle.clap.specs.Words.{App, FailsBy, IsAmong, Kinds, Row, Text, fault_of, found_of, is_simple, is_simple_and_free, kind_of, rows_of, subcommand_name_of, subcommand_of, subcommand_rows, subcommand_rows_of}
 use Rattle.clap.specs.declared.parser.matches.ArgMatches.{ArgMatches}
 use Rattle.clap.specs.declared.parser.matches.ArgMatches.TheViews.{out-ArgMatches, out-SubCommand}
 use Rattle.clap.specs.declared.parser.matches.SubCommand.{SubCommand}

@@ -1,6 +1,6 @@
 -- What calls of a run leave of its disk.
-use Rattle.std.proofs.Common.{◌≡◌, ◌∙◌, ℕ, ◌≤◌, Option, List, refl, subst, sym, arith}
-use Rattle.commit_log.proofs.Watching.{no_call, one_call, run_on}
+use Rattle.std.proofs.Common.{◌≡◌, ℕ, ◌≤◌, Option, List, refl, subst, sym}
+use Rattle.commit_log.proofs.Watching.{no_call, one_call}
 use Rattle.commit_log.specs.Readings.{OnlyReads}
 use Rattle.disk_ports.specs.Crashes.{Elapses, LeavesOnly, NoMore}
 use Rattle.program.specs.Outcome.{IsLeft, of_disk}

@@ -1,5 +1,5 @@
 -- How a run with a log ends, by what stands behind the opening of the log; and one without.
-use Rattle.std.proofs.Common.{◌≡◌, ◌≢◌, ◌⊎◌, ℕ, Bool, true, false, List, [], Option, None, Some, refl, sym, subst, inl, inr}
+use Rattle.std.proofs.Common.{◌≡◌, ◌≢◌, ℕ, true, false, List, [], Option, None, Some, refl, sym, subst, inl, inr}
 use Rattle.std.specs.Option.{ForSome}
 use Rattle.std.specs.Io.KnownBytes.{Appends}
 use Rattle.byte_ports.specs.Calls.{AppendsFront}
@@ -12,7 +12,7 @@ use Rattle.store_rounds.specs.Prepared.{IsFirstFull, begun_with}
 use Rattle.workload_spec.specs.declared.script.Script.{Script}
 use Rattle.program.specs.Outcome.{Begins, HasNoLog, IsBuilt, IsLogFull, IsStartedFor, LeavesOutlet, LogKeeps, OfDisk, Outside, RoundsEnd, ScriptEnds, log_too_large}
 use Rattle.program.specs.Played.{LineEnds}
-use Rattle.program.specs.Runs.{BuiltEnds, FindsNoRoom, FindsNoSlots, NoLog, OpenedEnds, UnloggedEnds}
+use Rattle.program.specs.Runs.{BuiltEnds, FindsNoSlots, NoLog, OpenedEnds, UnloggedEnds}
 use Rattle.program.specs.declared.status.Status.{Status}
 use Rattle.program.specs.declared.status.Status.TheVariants as status
 use Rattle.program.proofs.Played.{rounds_told}

@@ -1,6 +1,6 @@
 -- That the rounds of a run survive on its disk, by what stands behind the opening of its log.
-use Rattle.std.proofs.Common.{◌≡◌, ◌⊎◌, ◌∙◌, ℕ, ◌≤◌, ◌+◌, List, [], ◌∷◌, length, add-one, Option, None, Some, true, inl, inr, refl, sym, ap, subst, append-nil, arith}
-use Rattle.std.specs.Prelude.{IsSome, is_some}
+use Rattle.std.proofs.Common.{◌≡◌, ◌⊎◌, ◌∙◌, ℕ, ◌≤◌, ◌+◌, List, [], ◌∷◌, length, add-one, Option, None, Some, inl, inr, refl, sym, ap, subst, append-nil, arith}
+use Rattle.std.specs.Prelude.{IsSome}
 use Rattle.std.specs.Option.{ForSome}
 use Rattle.commit_log.specs.Commits.{StandsOf}
 use Rattle.commit_log.specs.Readings.{OnlyReads}
@@ -48,7 +48,7 @@ module _ {D : Type 0} (told : D → Option (List ℕ)) (may_leave : D → List �
   stands_through only_now disk None script = tt
   stands_through only_now disk (Some log) script = λ stands.
       let left : (c : List ℕ) → may_leave disk c → LeavesRounds script [] 0 c = λ c leaves.
-          first_left script c (log.payloads.gate, subst (λ (b : List ℕ). IsLogOf script.tables script.begun log.payloads.gate b) (sym (stands.only c leaves)) stands.is_log) in
+      first_left script c (log.payloads.gate, subst (λ (b : List ℕ). IsLogOf script.tables script.begun log.payloads.gate b) (sym (stands.only c leaves)) stands.is_log) in
       record {
         any_moment = record { later = omega arith; each = λ c since. left c (only_now disk c since); before = λ t c le since. inl since };
         kept = left;

@@ -143,9 +143,9 @@ abbrev pub IsStartedFor : Option (List ℕ) → OfDisk → Type 0
 IsStartedFor None disk = ⊥
 IsStartedFor (Some path) disk = IsStartedWith path disk
 
--- The disk was started with the path of a log, if one is kept, or was not started.
+-- A log is kept, and the disk was started with its path, or was not started.
 abbrev pub MayBeStartedFor : Option (List ℕ) → OfDisk → Type 0
-MayBeStartedFor None disk = IsUnstarted disk
+MayBeStartedFor None disk = ⊥
 MayBeStartedFor (Some path) disk = MayBeStarted path disk
 
 -- The commits that a run over these tables begins with: none without a log; with one the disk was

@@ -1,6 +1,5 @@
 //! What the program does with its words, its input, its output, its outlet and its disk.
 ghost use Rattle.std.specs.Prelude.{◌≡◌, IfOk, false, map, string_bytes};
-ghost use Rattle.byte_ports.specs.Calls.{Rose};
 ghost use Rattle.commit_log.specs.Readings.{OnlyReads};
 ghost use Rattle.workload_spec.specs.Valid.{IsWritten};
 ghost use Rattle.workload_spec.specs.Grammar.{script_of};

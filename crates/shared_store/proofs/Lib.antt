@@ -25,6 +25,7 @@ mod Rows
 pub mod Scanned
 pub mod Sessions
 pub mod Settled
+pub mod Sharing
 pub mod Shown
 pub mod Swept
 pub mod Thaws

@@ -1,4 +1,4 @@
-use Rattle.std.proofs.Common.{◌≡◌, ◌≢◌, ℕ, List, [], length, ap, arith, inl, subst, sym}
+use Rattle.std.proofs.Common.{◌≡◌, length, ap, arith, inl, subst, sym}
 use Rattle.commit_log.specs.Commits.{StandsOf}
 use Rattle.isolation_spec.specs.Contents.{History}
 use Rattle.program.proofs.Surviving.{is_empty, no_bytes}
@@ -21,7 +21,7 @@ returns-in-Ok-clause-begins g c = record {
 pub returns-in-Ok-clause-stands : goal.returns-in-Ok-clause-stands
 returns-in-Ok-clause-stands g c = λ some.
     let empty : g.D.Disk.told c.args.disk.now ≡ _ = is_empty (g.D.Disk.told c.args.disk.now) some
-        (λ bytes told. no_bytes bytes c.args.size (c.requires bytes told) c.if-size-ne0.false) in
+    (λ bytes told. no_bytes bytes c.args.size (c.requires bytes told) c.if-size-ne0.false) in
     subst (λ (commits : History). StandsOf c.args.tables.now (g.D.Disk.told c.make.new.disk) (g.D.Disk.may_leave c.make.new.disk) commits c.in-Ok.log)
     (sym c.new.ensures) (c.in-Ok.ensures.ok empty c.args.tables.now)
 

@@ -1,5 +1,5 @@
-use Rattle.std.proofs.Common.{◌≡◌, ℕ, ◌<◌, ◌^◌, List, length, option_map, subst, sym, arith}
-use Rattle.program.specs.Outcome.{IsWorkload, OfDisk, Outside, of_disk, outside}
+use Rattle.std.proofs.Common.{ℕ, ◌<◌, ◌^◌, List, length, option_map, subst, sym, arith}
+use Rattle.program.specs.Outcome.{IsWorkload, Outside, of_disk, outside}
 use Rattle.program.proofs.Disks.{is_left}
 use Rattle.program.proofs.Scripts.{not_read_fault, refusal_ends, run_ends, text_is}
 use Rattle.program.proofs.running.run.Goals as goal

@@ -1,5 +1,5 @@
-use Rattle.std.proofs.Common.{◌≡◌, ◌≢◌, ◌∙◌, ℕ, List, [], Option, Some, Ok, Err, ap, inl, inr, is_err, option_map, refl, subst, sym}
-use Rattle.std.specs.Prelude.{IsErrOf, IsSome}
+use Rattle.std.proofs.Common.{◌≡◌, ◌≢◌, ◌∙◌, List, [], Some, Err, ap, is_err, option_map, refl, subst}
+use Rattle.std.specs.Prelude.{IsErrOf}
 use Rattle.std.specs.Option.{ForSome}
 use Rattle.cell_model.specs.declared.table.TableDecl.{TableDecl}
 use Rattle.commit_log.specs.Commits.{StandsOf}
@@ -25,19 +25,18 @@ returns-in-Ok-clause-ends g c = λ left_old left_new.
     (LogsRounds g.D.Disk.told g.D.Disk.moment g.D.Disk.left_since g.D.Disk.may_leave c.open_log.new.disk c.run_opened.new.disk (Some c.in-Ok.opened.log) script)
     (c.run_opened.new.disk ≡ c.open_log.new.disk)
     (outside left_old (g.O.Sink.written c.args.out.now) (g.X.Sink.written c.args.export.now) (g.X.Sink.started c.args.export.now))
-    (outside left_new (g.O.Sink.written c.run_opened.new.out) (g.X.Sink.written c.run_opened.new.export) (g.X.Sink.started c.run_opened.new.export))
-    (
+    (outside left_new (g.O.Sink.written c.run_opened.new.out) (g.X.Sink.written c.run_opened.new.export) (g.X.Sink.started c.run_opened.new.export)) (
       c.run_opened.ensures.started ∙ c.in-Ok.ensures.started (λ is. let no : ⊥ = cc in no),
       subst (λ (tables : List TableDecl). BeginsWith tables (g.D.Disk.told c.args.disk.now) first) c.as_slice.ensures c.in-Ok.ensures.begins,
     )
     (λ rounds printed logs. survives g.D.Disk.told g.D.Disk.may_leave g.D.Disk.moment g.D.Disk.left_since
-        c.args.disk.now c.open_log.new.disk c.run_opened.new.disk script rounds printed
-        c.open_log.ensures.later first c.in-Ok.ensures.reads c.in-Ok.opened.log
-        (λ some. subst (λ (tables : List TableDecl). StandsOf tables (g.D.Disk.told c.open_log.new.disk) (g.D.Disk.may_leave c.open_log.new.disk) first c.in-Ok.opened.log)
-            c.as_slice.ensures (c.in-Ok.ensures.stands some))
-        logs)
+    c.args.disk.now c.open_log.new.disk c.run_opened.new.disk script rounds printed
+    c.open_log.ensures.later first c.in-Ok.ensures.reads c.in-Ok.opened.log
+    (λ some. subst (λ (tables : List TableDecl). StandsOf tables (g.D.Disk.told c.open_log.new.disk) (g.D.Disk.may_leave c.open_log.new.disk) first c.in-Ok.opened.log)
+    c.as_slice.ensures (c.in-Ok.ensures.stands some))
+    logs)
     (λ same table full. full_reads g.D.Disk.told g.D.Disk.may_leave g.D.Disk.moment g.D.Disk.left_since
-        c.args.disk.now c.open_log.new.disk c.run_opened.new.disk c.args.script first table full c.in-Ok.ensures.reads same)
+    c.args.disk.now c.open_log.new.disk c.run_opened.new.disk c.args.script first table full c.in-Ok.ensures.reads same)
     c.run_opened.result (c.run_opened.ensures.ends left_old left_new)
 
 pub returns-in-Err-NotALog-clause-ends : goal.returns-in-Err-NotALog-clause-ends

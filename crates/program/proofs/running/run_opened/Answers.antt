@@ -1,9 +1,9 @@
 use Rattle.std.proofs.Common.{◌≡◌, Some, inl, inr, option_map, refl}
-use Rattle.store_rounds.specs.Logging.{LogsRounds, OfLogged}
+use Rattle.store_rounds.specs.Logging.{LogsRounds}
 use Rattle.store_rounds.specs.Prepared.{begun_with}
 use Rattle.workload_spec.specs.declared.script.Script.{Script}
 use Rattle.program.specs.Outcome.{outside}
-use Rattle.program.proofs.Opened.{opened_built, too_large_ends}
+use Rattle.program.proofs.Opened.{too_large_ends}
 use Rattle.program.proofs.Surviving.{stands_through}
 use Rattle.program.proofs.running.run_opened.Goals as goal
 

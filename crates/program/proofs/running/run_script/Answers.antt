@@ -1,4 +1,4 @@
-use Rattle.std.proofs.Common.{List, ℕ, Option, Bor, None, Some, ap, option_map, subst, sym}
+use Rattle.std.proofs.Common.{List, ℕ, Option, Bor, ap, option_map, subst, sym}
 use Rattle.program.specs.Outcome.{ScriptEnds, of_disk, outside}
 use Rattle.program.proofs.Opened.{unlogged_ends}
 use Rattle.program.proofs.running.run_script.Goals as goal
