@@ -1,8 +1,6 @@
-use Rattle.std.proofs.Common.{◌≡◌, ◌∙◌, ◌<◌, true, false, List, [], None, length, get_or, ap, refl, sym, subst}
-use Rattle.std.specs.Prelude.{is_some, IfSome, Some, slice_set}
+use Rattle.std.proofs.Common.{◌≡◌, ◌∙◌, ◌<◌, true, false, List, [], length, ap, refl, sym, subst}
+use Rattle.std.specs.Prelude.{is_some, IfSome}
 use Rattle.cell_model.specs.declared.column.Column.{Column}
-use Rattle.undo_chain.specs.declared.undo.Undo.{Undo}
-use Rattle.block_spec.specs.declared.change.Before.{Before}
 use Rattle.block_spec.specs.declared.phase.Phase.{Phase}
 use Rattle.block_spec.specs.declared.phase.Phase.TheVariants.{Loose, Sealed, Imaged}
 use Rattle.block_spec.specs.Slots.{Slot, is_bare}
