@@ -182,7 +182,7 @@ fn look<R: Wait>(
         return Err(Fail::from("no transaction"));
     }
     let row = store.get(rt, session, 1, key)?;
-    store.abort(rt, session);
+    finish(rt, store, session, Aborted)?;
     Ok(format!(in alloc; "{:?} {:?}", begun, row)?)
 }
 
