@@ -1,6 +1,6 @@
 -- The duties of a crew, one by one, and that they may be done.
 use Rattle.std.proofs.Common.{◌≡◌, ℕ, suc, ◌+◌, ◌*◌, ◌<◌, ◌≤◌, nat_lt, Bool, true, false, cond, ◌==◌, ◌||◌, List, [], ◌∷◌, ◌++◌, length, get_or, None, Some, refl, sym, ap, ◌∙◌, subst, arith, true≢false}
-use Rattle.std.specs.Prelude.{All, count_by, not}
+use Rattle.std.specs.Prelude.{All, count_by}
 use Rattle.std.specs.Global.{Vec as GlobalVec}
 use Rattle.std.specs.List.{cons_option, list_any}
 use Rattle.std.proofs.lemmas.Bool.Decides.{nat_tests}
@@ -16,7 +16,7 @@ use Rattle.store_rounds.specs.Sessions.{IsFreeSession}
 use Rattle.shared_store.specs.declared.session.Session.{Session}
 use Rattle.store_rounds.specs.Turns.{most_of_turn}
 use Rattle.store_rounds.specs.Answered.{IsServed, most_events}
-use Rattle.store_rounds.specs.Duties.{AreDuties, AreOfSessions, AreWithWorkers, IsNew, IsOfSession, asks_export, has_export, is_cut, is_whole}
+use Rattle.store_rounds.specs.Duties.{AreDuties, AreOfSessions, AreWithWorkers, IsNew, IsOfSession, asks_export, has_export}
 use Rattle.store_rounds.specs.Rounds.{HaveRoomFor}
 use Rattle.store_rounds.specs.Row.{AreSessions}
 use Rattle.store_rounds.specs.Served.{OneExportsAtMost, MayDo, MayServe, MayServeRow}
@@ -25,8 +25,6 @@ use Rattle.store_rounds.specs.declared.crew.Crew.{Crew}
 use Rattle.store_rounds.specs.declared.duty.Duty.{Duty}
 use Rattle.store_rounds.specs.declared.duty.Task.{Task}
 use Rattle.store_rounds.specs.declared.duty.Task.TheVariants as task
-use Rattle.store_rounds.specs.declared.fault.RunFault.{RunFault}
-use Rattle.store_rounds.specs.declared.fault.RunFault.TheVariants as fault
 use Rattle.store_rounds.proofs.Ranges.{any_of}
 use Rattle.store_rounds.proofs.Runs.{Place, of_session, of_worker, place}
 

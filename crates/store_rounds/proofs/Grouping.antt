@@ -1,5 +1,5 @@
 -- The commits of a round, by what its sessions keep of them.
-use Rattle.std.proofs.Common.{◌≡◌, ℕ, zero, suc, ◌+◌, ◌<◌, ◌≤◌, ◌==◌, Bool, true, false, List, [], ◌∷◌, ◌++◌, map, length, get_or, drop, take, fold, refl, sym, ap, ◌∙◌, subst, append-nil, arith}
+use Rattle.std.proofs.Common.{◌≡◌, ℕ, zero, suc, ◌+◌, ◌<◌, ◌≤◌, ◌==◌, Bool, true, false, List, [], ◌∷◌, ◌++◌, map, length, get_or, drop, take, fold, sym, ap, ◌∙◌, subst, append-nil, arith}
 use Rattle.std.specs.Prelude.{All}
 use Rattle.std.specs.List.{flat_map, range_with_len}
 use Rattle.std.specs.List.Sorted.{IsPermutation}
@@ -24,7 +24,7 @@ use Rattle.run_laws.specs.Commits.Shares.{commits_since}
 use Rattle.shared_store.proofs.OwnCommits.{keeps_new, stretch_wrote}
 use Rattle.shared_store.specs.Building.{IsNewRow, StartsKeeping}
 use Rattle.shared_store.specs.Commits.{commits_in}
-use Rattle.shared_store.specs.Store.{KeepsCommits, StoreView, handed_over, own_writes, seen, shape_in, wrote_of}
+use Rattle.shared_store.specs.Store.{KeepsCommits, StoreView, own_writes, seen, shape_in, wrote_of}
 use Rattle.shared_store.specs.declared.session.Session.{Session}
 use Rattle.store_rounds.specs.Crews.{crew_of, crew_shares, shares_of}
 use Rattle.store_rounds.specs.Grouped.{AreByNumber, HandedOver, kept_in}

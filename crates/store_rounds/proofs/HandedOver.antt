@@ -1,16 +1,13 @@
 -- Sessions whose commits were taken: what they are still, and what they keep from then on.
-use Rattle.std.proofs.Common.{◌≡◌, ℕ, zero, suc, ◌+◌, ◌<◌, ◌≤◌, List, [], ◌∷◌, ◌++◌, map, length, get_or, drop, take, Option, Some, option_map, refl, sym, ap, ◌∙◌, subst, arith, length-append}
-use Rattle.std.proofs.lemmas.Grind.{elements}
-use Rattle.std.proofs.lemmas.List.{length-map}
+use Rattle.std.proofs.Common.{◌≡◌, ℕ, zero, suc, ◌+◌, ◌<◌, List, [], ◌∷◌, ◌++◌, map, length, get_or, drop, Option, Some, option_map, refl, sym, ap, ◌∙◌, subst, arith}
 use Rattle.run_spec.specs.Commits.{SessionWrites}
 use Rattle.run_spec.specs.declared.commit.Commit.{Commit}
 use Rattle.run_spec.specs.Occurrences.{Logged}
 use Rattle.run_laws.specs.Rounds.Working.{StandsBehind}
-use Rattle.shared_store.specs.Commits.{without_commits, without_first}
+use Rattle.shared_store.specs.Commits.{without_commits}
 use Rattle.shared_store.specs.Store.{KeepsCommits, StoreView, events_made, handed_over, own_writes, reads_of, seen, shape_in}
 use Rattle.shared_store.specs.declared.session.Session.{Session}
 use Rattle.store_rounds.specs.Grouped.{HandedOver, MayHandOver, MayHaveHandedOver}
-use Rattle.store_rounds.specs.Row.{AreSessions}
 use Rattle.store_rounds.specs.Runs.{Standing}
 use Rattle.store_rounds.specs.Sessions.{IsFreeSession}
 

@@ -25,7 +25,6 @@ mod WholeRounds
 mod Went
 mod Running
 mod Stopping
-mod Nothing
 mod AddedGroups
 mod Looping
 mod Going

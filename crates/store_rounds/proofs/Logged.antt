@@ -1,5 +1,5 @@
 -- What the disk of a run's log has of its rounds, round behind round.
-use Rattle.std.proofs.Common.{◌≡◌, ◌⊎◌, inl, inr, ⊎_elim, ℕ, zero, suc, ◌+◌, ◌≤◌, ◌^◌, true, false, List, [], ◌∷◌, ◌++◌, length, take, Option, None, Some, is_some, Result, Ok, Err, refl, sym, ap, ◌∙◌, subst, append-nil, arith}
+use Rattle.std.proofs.Common.{◌≡◌, ◌⊎◌, inl, inr, ⊎_elim, ℕ, ◌+◌, ◌≤◌, ◌^◌, false, List, [], ◌∷◌, ◌++◌, length, take, Option, None, Some, is_some, Result, Ok, Err, refl, sym, ap, ◌∙◌, subst, append-nil, arith}
 use Rattle.std.specs.Prelude.{All, IfSome}
 use Rattle.std.proofs.lemmas.List.{length_push}
 use Rattle.cell_model.specs.declared.table.TableDecl.{TableDecl}
@@ -22,7 +22,7 @@ use Rattle.run_laws.specs.Recovery.Leaves.{LeavesRounds}
 use Rattle.shared_store.specs.Building.{IsNewRow, StartsKeeping}
 use Rattle.shared_store.specs.Store.{StoreView}
 use Rattle.shared_store.specs.declared.session.Session.{Session}
-use Rattle.store_rounds.specs.Adding.{Added, AddedTaken, EndsRound, FailedToAdd, LeavesWithOrWithout, LeftAlone, MayBeAdded, TookTooMany}
+use Rattle.store_rounds.specs.Adding.{Added, EndsRound, LeavesWithOrWithout, MayBeAdded}
 use Rattle.store_rounds.specs.Grouped.{AreByNumber, HandedOver, kept_in}
 use Rattle.store_rounds.specs.Logging.{ComesThrough, IsTooLong, LogsRounds}
 use Rattle.store_rounds.specs.Workloads.{IsUnlogged}

@@ -1,7 +1,6 @@
 -- What the disk of a run's log has of the run's rounds.
-use Rattle.std.specs.Prelude.{◌≡◌, ◌≢◌, ◌⊎◌, ℕ, ◌+◌, ◌≤◌, ◌^◌, List, [], ◌∷◌, ◌++◌, length, Option}
-use Rattle.std.specs.Prelude.{IfSome, Result, Ok, Err}
-use Rattle.byte_ports.specs.Calls.{Rose}
+use Rattle.std.specs.Prelude.{◌≡◌, ℕ, ◌+◌, ◌≤◌, ◌^◌, List, [], ◌∷◌, ◌++◌, length, Option}
+use Rattle.std.specs.Prelude.{IfSome}
 use Rattle.commit_log.specs.Commits.{StandsOf}
 use Rattle.commit_log.specs.declared.log.Log.{Log}
 use Rattle.disk_ports.specs.Crashes.{LeavesOnly}

@@ -19,7 +19,7 @@ use Rattle.store_rounds.proofs.Turns.{none_left}
 use Rattle.store_rounds.proofs.Short.{few_lines, few_rounds}
 use Rattle.store_rounds.proofs.Running.{number_fits, round_has_room, round_once, round_served, round_within}
 use Rattle.store_rounds.proofs.Logged.{failed_as}
-use Rattle.store_rounds.proofs.Looping.{looping_alone, looping_begins, looping_cut, looping_ends, looping_goes_on, looping_stops, looping_unended, looping_unlogged}
+use Rattle.store_rounds.proofs.Looping.{looping_begins, looping_cut, looping_ends, looping_goes_on, looping_stops, looping_unended}
 use Rattle.store_rounds.proofs.rounds.run_left.Goals as goal
 
 pub loop-round-init : goal.loop-round-init
@@ -133,56 +133,56 @@ loop-round-preserved g c = record {
 pub returns-in-Err-clause-part : goal.returns-in-Err-clause-part
 returns-in-Err-clause-part g c =
     looping_stops g.D.Disk.told g.D.Disk.moment g.D.Disk.left_since g.D.Disk.may_leave g.met.D.Disk.counts_now g.met.D.Disk.only_now
-      c.args.script.now.value c.args.dispatcher.now.store.now c.args.disk.now c.args.log.now (g.O.Sink.written c.args.out.now) (g.X.Sink.written c.args.outlet.now)
-      c.loop-round.row c.run_round.new.row c.loop-round.yielded (into_iter_items c.next.new.self)
-      _ (g.X.Sink.written c.loop-round.outlet) (g.X.Sink.written c.run_round.new.outlet) c.loop-round.number c.in-Some.round c.loop-round.disk c.loop-round.log
-      c.requires.runnable
-      (ap (λ (rounds : List (List Line)). c.loop-round.yielded ++ rounds) (sym c.in-Some.ensures.steps.0) ∙ c.loop-round.invariant.split)
-      c.loop-round.invariant.looping
-      c.in-Err.fault
-      (subst (λ (crew : Crew). RoundStops c.args.dispatcher.now.store.now crew c.loop-round.row c.run_round.new.row c.in-Some.round
-      (g.X.Sink.written c.loop-round.outlet) (g.X.Sink.written c.run_round.new.outlet) c.in-Err.fault) c.requires.crew c.in-Err.ensures.part)
+    c.args.script.now.value c.args.dispatcher.now.store.now c.args.disk.now c.args.log.now (g.O.Sink.written c.args.out.now) (g.X.Sink.written c.args.outlet.now)
+    c.loop-round.row c.run_round.new.row c.loop-round.yielded (into_iter_items c.next.new.self)
+    _ (g.X.Sink.written c.loop-round.outlet) (g.X.Sink.written c.run_round.new.outlet) c.loop-round.number c.in-Some.round c.loop-round.disk c.loop-round.log
+    c.requires.runnable
+    (ap (λ (rounds : List (List Line)). c.loop-round.yielded ++ rounds) (sym c.in-Some.ensures.steps.0) ∙ c.loop-round.invariant.split)
+    c.loop-round.invariant.looping
+    c.in-Err.fault
+    (subst (λ (crew : Crew). RoundStops c.args.dispatcher.now.store.now crew c.loop-round.row c.run_round.new.row c.in-Some.round
+    (g.X.Sink.written c.loop-round.outlet) (g.X.Sink.written c.run_round.new.outlet) c.in-Err.fault) c.requires.crew c.in-Err.ensures.part)
 
 pub returns-in-Err-end_round-clause-part : goal.returns-in-Err-end_round-clause-part
 returns-in-Err-end_round-clause-part g c =
     looping_unended g.D.Disk.told g.D.Disk.moment g.D.Disk.left_since g.D.Disk.may_leave g.met.D.Disk.counts_now g.met.D.Disk.only_now
-      c.args.script.now.value c.args.dispatcher.now.store.now c.args.disk.now c.args.log.now (g.O.Sink.written c.args.out.now) (g.X.Sink.written c.args.outlet.now)
-      c.loop-round.row c.run_round.new.row c.loop-round.yielded (into_iter_items c.next.new.self)
-      _ (g.X.Sink.written c.loop-round.outlet) (g.X.Sink.written c.run_round.new.outlet) c.loop-round.number c.in-Some.round c.loop-round.disk c.loop-round.log
-      c.requires.runnable
-      (ap (λ (rounds : List (List Line)). c.loop-round.yielded ++ rounds) (sym c.in-Some.ensures.steps.0) ∙ c.loop-round.invariant.split)
-      c.loop-round.invariant.looping
-      c.in-Ok.duties.items
-      (subst (λ (crew : Crew). RanRound c.args.dispatcher.now.store.now (c.loop-round.number + 1) crew c.loop-round.row c.run_round.new.row c.in-Some.round c.in-Ok.duties.items
-      (g.X.Sink.written c.loop-round.outlet) (g.X.Sink.written c.run_round.new.outlet)) c.requires.crew c.in-Ok.ensures.whole)
-      c.end_round.new.row c.end_round.ensures.row c.end_round.new.log c.end_round.new.disk
-      (GlobalVec ℕ) c.in-Err-end_round.fault
-      (subst (λ (crew : Crew). EndsRound g.D.Disk.told g.D.Disk.moment g.D.Disk.left_since g.D.Disk.may_leave crew.sessions c.run_round.new.row c.end_round.new.row
-      c.loop-round.log c.end_round.new.log c.loop-round.disk c.end_round.new.disk (failed_as (GlobalVec ℕ) c.in-Err-end_round.fault)) c.requires.crew c.in-Err-end_round.ensures.log)
+    c.args.script.now.value c.args.dispatcher.now.store.now c.args.disk.now c.args.log.now (g.O.Sink.written c.args.out.now) (g.X.Sink.written c.args.outlet.now)
+    c.loop-round.row c.run_round.new.row c.loop-round.yielded (into_iter_items c.next.new.self)
+    _ (g.X.Sink.written c.loop-round.outlet) (g.X.Sink.written c.run_round.new.outlet) c.loop-round.number c.in-Some.round c.loop-round.disk c.loop-round.log
+    c.requires.runnable
+    (ap (λ (rounds : List (List Line)). c.loop-round.yielded ++ rounds) (sym c.in-Some.ensures.steps.0) ∙ c.loop-round.invariant.split)
+    c.loop-round.invariant.looping
+    c.in-Ok.duties.items
+    (subst (λ (crew : Crew). RanRound c.args.dispatcher.now.store.now (c.loop-round.number + 1) crew c.loop-round.row c.run_round.new.row c.in-Some.round c.in-Ok.duties.items
+    (g.X.Sink.written c.loop-round.outlet) (g.X.Sink.written c.run_round.new.outlet)) c.requires.crew c.in-Ok.ensures.whole)
+    c.end_round.new.row c.end_round.ensures.row c.end_round.new.log c.end_round.new.disk
+    (GlobalVec ℕ) c.in-Err-end_round.fault
+    (subst (λ (crew : Crew). EndsRound g.D.Disk.told g.D.Disk.moment g.D.Disk.left_since g.D.Disk.may_leave crew.sessions c.run_round.new.row c.end_round.new.row
+    c.loop-round.log c.end_round.new.log c.loop-round.disk c.end_round.new.disk (failed_as (GlobalVec ℕ) c.in-Err-end_round.fault)) c.requires.crew c.in-Err-end_round.ensures.log)
 
 pub returns-in-Err-write_all-clause-part : goal.returns-in-Err-write_all-clause-part
 returns-in-Err-write_all-clause-part g c =
     looping_cut g.D.Disk.told g.D.Disk.moment g.D.Disk.left_since g.D.Disk.may_leave g.met.D.Disk.counts_now g.met.D.Disk.only_now
-      c.args.script.now.value c.args.dispatcher.now.store.now c.args.disk.now c.args.log.now (g.O.Sink.written c.args.out.now) (g.X.Sink.written c.args.outlet.now)
-      c.loop-round.row c.run_round.new.row c.loop-round.yielded (into_iter_items c.next.new.self)
-      _ (g.X.Sink.written c.loop-round.outlet) (g.X.Sink.written c.run_round.new.outlet) c.loop-round.number c.in-Some.round c.loop-round.disk c.loop-round.log
-      c.requires.runnable
-      (ap (λ (rounds : List (List Line)). c.loop-round.yielded ++ rounds) (sym c.in-Some.ensures.steps.0) ∙ c.loop-round.invariant.split)
-      c.loop-round.invariant.looping
-      c.in-Ok.duties.items
-      (subst (λ (crew : Crew). RanRound c.args.dispatcher.now.store.now (c.loop-round.number + 1) crew c.loop-round.row c.run_round.new.row c.in-Some.round c.in-Ok.duties.items
-      (g.X.Sink.written c.loop-round.outlet) (g.X.Sink.written c.run_round.new.outlet)) c.requires.crew c.in-Ok.ensures.whole)
-      c.end_round.new.row c.end_round.ensures.row c.end_round.new.log c.end_round.new.disk
-      c.in-Ok-end_round.text c.as_slice.result.now (g.O.Sink.written c.write_all.new.sink)
-      (subst (IsWholeText c.in-Ok.duties.items) (sym c.as_slice.ensures.value) c.in-Ok-end_round.ensures.text)
-      c.in-Err-write_all.ensures.bytes
-      (subst (λ (crew : Crew). EndsRound g.D.Disk.told g.D.Disk.moment g.D.Disk.left_since g.D.Disk.may_leave crew.sessions c.run_round.new.row c.end_round.new.row
-      c.loop-round.log c.end_round.new.log c.loop-round.disk c.end_round.new.disk (Ok c.in-Ok-end_round.text)) c.requires.crew c.in-Ok-end_round.ensures.log)
+    c.args.script.now.value c.args.dispatcher.now.store.now c.args.disk.now c.args.log.now (g.O.Sink.written c.args.out.now) (g.X.Sink.written c.args.outlet.now)
+    c.loop-round.row c.run_round.new.row c.loop-round.yielded (into_iter_items c.next.new.self)
+    _ (g.X.Sink.written c.loop-round.outlet) (g.X.Sink.written c.run_round.new.outlet) c.loop-round.number c.in-Some.round c.loop-round.disk c.loop-round.log
+    c.requires.runnable
+    (ap (λ (rounds : List (List Line)). c.loop-round.yielded ++ rounds) (sym c.in-Some.ensures.steps.0) ∙ c.loop-round.invariant.split)
+    c.loop-round.invariant.looping
+    c.in-Ok.duties.items
+    (subst (λ (crew : Crew). RanRound c.args.dispatcher.now.store.now (c.loop-round.number + 1) crew c.loop-round.row c.run_round.new.row c.in-Some.round c.in-Ok.duties.items
+    (g.X.Sink.written c.loop-round.outlet) (g.X.Sink.written c.run_round.new.outlet)) c.requires.crew c.in-Ok.ensures.whole)
+    c.end_round.new.row c.end_round.ensures.row c.end_round.new.log c.end_round.new.disk
+    c.in-Ok-end_round.text c.as_slice.result.now (g.O.Sink.written c.write_all.new.sink)
+    (subst (IsWholeText c.in-Ok.duties.items) (sym c.as_slice.ensures.value) c.in-Ok-end_round.ensures.text)
+    c.in-Err-write_all.ensures.bytes
+    (subst (λ (crew : Crew). EndsRound g.D.Disk.told g.D.Disk.moment g.D.Disk.left_since g.D.Disk.may_leave crew.sessions c.run_round.new.row c.end_round.new.row
+    c.loop-round.log c.end_round.new.log c.loop-round.disk c.end_round.new.disk (Ok c.in-Ok-end_round.text)) c.requires.crew c.in-Ok-end_round.ensures.log)
 
 pub returns-clause-whole : goal.returns-clause-whole
 returns-clause-whole g c =
     looping_ends g.D.Disk.told g.D.Disk.moment g.D.Disk.left_since g.D.Disk.may_leave g.met.D.Disk.counts_now g.met.D.Disk.only_now
-      c.args.script.now.value c.args.dispatcher.now.store.now c.args.disk.now c.args.log.now (g.O.Sink.written c.args.out.now) (g.X.Sink.written c.args.outlet.now)
-      c.loop-round.row c.loop-round.yielded _ _ c.loop-round.number c.loop-round.disk c.loop-round.log c.requires.runnable c.loop-round.invariant.looping
-      (none_left c.loop-round.yielded (into_iter_items c.loop-round.round-iterator) c.args.script.now.value.rounds
-      (omega (arith, c.in-None.ensures.steps.0, c.loop-round.round-iterator.rest.ok.0)) c.loop-round.invariant.split)
+    c.args.script.now.value c.args.dispatcher.now.store.now c.args.disk.now c.args.log.now (g.O.Sink.written c.args.out.now) (g.X.Sink.written c.args.outlet.now)
+    c.loop-round.row c.loop-round.yielded _ _ c.loop-round.number c.loop-round.disk c.loop-round.log c.requires.runnable c.loop-round.invariant.looping
+    (none_left c.loop-round.yielded (into_iter_items c.loop-round.round-iterator) c.args.script.now.value.rounds
+    (omega (arith, c.in-None.ensures.steps.0, c.loop-round.round-iterator.rest.ok.0)) c.loop-round.invariant.split)
