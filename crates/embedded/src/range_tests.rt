@@ -303,6 +303,34 @@ fn commit_beside<R: Abort + Wait>(
     commit(rt, store, one)
 }
 
+/// A key that comes into a range that was read makes a commit stale, and one beside it does not.
+fn come_into_range<R: Abort + Wait>(
+    rt: &R,
+    alloc: Global,
+    store: &Store,
+    one: &mut Session,
+    two: &mut Session,
+) -> Result<(), Fail>
+    requires one { IsSession store.now one.old }
+    requires two { IsSession store.now two.old }
+    requires tables { length (shape_in store.now).tables ≡ 1 }
+{
+    let first = commit_beside(rt, alloc, store, one, two, &[], 25)?;
+    let stale = Stale {
+        read: Read::Range {
+            table: 0,
+            low: 20,
+            high: 29,
+        },
+        number: 1,
+    };
+    assert!(rt; first == Err(stale));
+    abort(rt, store, one)?;
+    let second = commit_beside(rt, alloc, store, one, two, &[25], 30)?;
+    assert!(rt; second == Ok(Some(3)));
+    Ok(())
+}
+
 /// A checked transaction reads a range without rows and inserts elsewhere: a key that comes into
 /// the range meanwhile makes its commit stale, and one beside the range does not.
 #[test]
@@ -313,18 +341,5 @@ fn a_key_comes_into_a_range(rt: HostRuntime) -> Result<(), Fail> {
         mut one,
         mut two,
     } = open(alloc)?;
-    let first = commit_beside(&rt, alloc, &store, &mut one, &mut two, &[], 25)?;
-    let stale = Stale {
-        read: Read::Range {
-            table: 0,
-            low: 20,
-            high: 29,
-        },
-        number: 1,
-    };
-    assert!(rt; first == Err(stale));
-    abort(&rt, &store, &mut one)?;
-    let second = commit_beside(&rt, alloc, &store, &mut one, &mut two, &[25], 30)?;
-    assert!(rt; second == Ok(Some(3)));
-    Ok(())
+    come_into_range(&rt, alloc, &store, &mut one, &mut two)
 }

@@ -78,33 +78,29 @@ fn workload(alloc: Global, chance: &mut Chance) -> Result<String, AllocError> {
     Ok(text)
 }
 
+/// A workload, and behind it its output.
+fn behind_workload(alloc: Global, workload: &str, output: &[u8]) -> Result<Vec<u8>, AllocError> {
+    let mut both = Vec::new(alloc);
+    both.extend_from_slice(workload.as_bytes())?;
+    both.extend_from_slice(b"====\n".as_slice())?;
+    both.extend_from_slice(output)?;
+    Ok(both)
+}
+
 /// Runs a workload, and lets its output be checked.
 fn is_explained<R: Wait + Threads + Sync>(
     rt: &R,
     alloc: Global,
-    workload: String,
+    workload: &str,
 ) -> Result<bool, AllocError> {
-    let ended = run(
-        rt,
-        alloc,
-        &["mainline", "run"],
-        workload.as_str().as_bytes(),
-        NOTHING_FAILS,
-    )?;
+    let words = ["mainline", "run"];
+    let ended = run(rt, alloc, &words, workload.as_bytes(), NOTHING_FAILS)?;
     if ended.status != Status::Done {
         return Ok(false);
     }
-    let mut both = Vec::new(alloc);
-    both.extend_from_slice(workload.as_str().as_bytes())?;
-    both.extend_from_slice(b"====\n".as_slice())?;
-    both.extend_from_slice(ended.out.written())?;
-    let checked = run(
-        rt,
-        alloc,
-        &["mainline", "check"],
-        both.as_slice(),
-        NOTHING_FAILS,
-    )?;
+    let both = behind_workload(alloc, workload, ended.out.written())?;
+    let words = ["mainline", "check"];
+    let checked = run(rt, alloc, &words, both.as_slice(), NOTHING_FAILS)?;
     Ok(checked.out.written() == b"explained\n".as_slice())
 }
 
@@ -113,7 +109,7 @@ fn a_checked_session_beside_three_plain_ones_is_explained(rt: HostRuntime) -> Re
     let mut chance = Chance { state: 1 };
     for at in 0..RUNS {
         let text = workload(rt.alloc(), &mut chance)?;
-        assert!(rt; is_explained(&rt, rt.alloc(), text)?, "run {at}");
+        assert!(rt; is_explained(&rt, rt.alloc(), text.as_str())?, "run {at}");
     }
     Ok(())
 }
