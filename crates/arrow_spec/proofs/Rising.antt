@@ -13,8 +13,8 @@ use Rattle.std.proofs.lemmas.Cmp.{nat_list_cmp_total, tied_itself}
 use Rattle.arrow_spec.specs.Arrays.{value_of}
 use Rattle.cell_model.specs.Values.{is_null}
 use Rattle.cell_model.specs.declared.cell.Cell.{Cell}
-use Rattle.dict_spec.specs.Dictionaries.{dictionary_of}
-use Rattle.dict_spec.proofs.Among.{Among, AmongCells, dictionary-among, dictionary-back}
+use Rattle.arrow_spec.specs.Dictionaries.{dictionary_of}
+use Rattle.arrow_spec.proofs.Among.{Among, AmongCells, dictionary-among, dictionary-back}
 
 -- each value is before the next
 abbrev pub Rises : List (List ℕ) → Type 0

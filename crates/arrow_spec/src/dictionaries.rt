@@ -1,10 +1,4 @@
-//! What streams whose texts and bytes are encoded by dictionaries are (`specs/`), with worked
-//! examples and laws.
-//!
-//! Each function here is one example or law. It does nothing; its contract is a value of the
-//! definitions that is written out, or what holds of them all.
-#![tactic(auto)]
-
+//! Worked examples and laws of columns and streams by dictionaries.
 ghost use Rattle.std.specs.Prelude.{◌≡◌, ◌++◌, ◌+◌, ℕ, pos, true, false, List, [], ◌∷◌};
 ghost use Rattle.std.specs.Prelude.{length, map, codes, slice_get, slice_range};
 ghost use Rattle.std.specs.Cmp.Lexicographic.{slice_cmp};
@@ -19,14 +13,14 @@ ghost use Rattle.cell_model.specs.Values.{is_null};
 ghost use Rattle.cell_model.specs.declared.cell.Cell.{Cell};
 ghost use Rattle.cell_model.specs.declared.cell.Cell.TheVariants.{Null, Num, Text, Blob};
 ghost use Rattle.cell_model.specs.declared.kind.Kind.TheVariants as kind;
-ghost use Rattle.dict_spec.specs.Batches.{column_dictionary, dict_batch_of, dictionary_with};
-ghost use Rattle.dict_spec.specs.Batches.{encoded_array};
-ghost use Rattle.dict_spec.specs.Dictionaries.{dictionary_cells, dictionary_of, index_cells};
-ghost use Rattle.dict_spec.specs.Dictionaries.{is_encoded, place_in};
-ghost use Rattle.dict_spec.specs.Examples.{fifth_text, four_texts, four_texts_bytes};
-ghost use Rattle.dict_spec.specs.Examples.{text_and_bytes, text_and_bytes_row, unordered_cells};
-ghost use Rattle.dict_spec.specs.Streams.{dict_messages, dict_schema_message, dict_stream_of};
-ghost use Rattle.dict_spec.specs.Streams.{dictionary_batch, message_of_dictionary};
+ghost use Rattle.arrow_spec.specs.DictBatches.{column_dictionary, dict_batch_of, dictionary_with};
+ghost use Rattle.arrow_spec.specs.DictBatches.{encoded_array};
+ghost use Rattle.arrow_spec.specs.Dictionaries.{dictionary_cells, dictionary_of, index_cells};
+ghost use Rattle.arrow_spec.specs.Dictionaries.{is_encoded, place_in};
+ghost use Rattle.arrow_spec.specs.DictExamples.{fifth_text, four_texts, four_texts_bytes};
+ghost use Rattle.arrow_spec.specs.DictExamples.{text_and_bytes, text_and_bytes_row, unordered_cells};
+ghost use Rattle.arrow_spec.specs.Streams.{dict_messages, dict_schema_message, dict_stream_of};
+ghost use Rattle.arrow_spec.specs.Streams.{message_of_dictionary};
 
 /// Texts and bytes between offsets of 32 bits are encoded, and no other kind.
 pub fn utf8_and_binary_are_encoded()
@@ -69,8 +63,8 @@ pub fn four_texts_make_792_bytes()
     ensures bytes { dict_stream_of (key_and kind.Utf8 true) (four_texts ∷ []) ≡ four_texts_bytes }
     ensures size { length four_texts_bytes ≡ 792 }
     ensures schema { length (dict_schema_message (key_and kind.Utf8 true)) ≡ 296 }
-    ensures places { (dictionary_batch (dictionary_with kind.Utf8
-        (dictionary_cells kind.Utf8 (column_cells 1 four_texts)))).buffers
+    ensures places { (batch_of_arrays 2 ((dictionary_with kind.Utf8
+        (dictionary_cells kind.Utf8 (column_cells 1 four_texts))).array ∷ [])).buffers
         ≡ (pos 0, pos 0) ∷ (pos 0, pos 12) ∷ (pos 16, pos 2) ∷ [] }
     ensures dictionary { length (message_of_dictionary 1 (dictionary_with kind.Utf8
         (dictionary_cells kind.Utf8 (column_cells 1 four_texts)))) ≡ 8 + 200 + 24 }

@@ -7,7 +7,7 @@ use Rattle.cell_model.specs.declared.cell.Cell.{Cell}
 use Rattle.cell_model.specs.declared.column.Column.{Column}
 use Rattle.cell_model.specs.declared.kind.Kind.{Kind}
 use Rattle.cell_model.specs.declared.kind.Kind.TheVariants.{I32}
-use Rattle.dict_spec.specs.Dictionaries.{dictionary_cells, index_cells, is_encoded}
+use Rattle.arrow_spec.specs.Dictionaries.{dictionary_cells, index_cells, is_encoded}
 
 -- A dictionary: how many values it has, and the column of these, in which none is null.
 pub record Dictionary : Type 0 where

@@ -13,7 +13,7 @@ use Rattle.std.proofs.lemmas.Slice.Eq.{bytes_eq-Decides}
 use Rattle.arrow_spec.specs.Arrays.{value_of}
 use Rattle.cell_model.specs.Values.{is_null}
 use Rattle.cell_model.specs.declared.cell.Cell.{Cell}
-use Rattle.dict_spec.specs.Dictionaries.{dictionary_of, place_in, with_cell}
+use Rattle.arrow_spec.specs.Dictionaries.{dictionary_of, place_in, with_cell}
 
 -- the value is one of these
 abbrev pub Among : List ℕ → List (List ℕ) → Type 0
