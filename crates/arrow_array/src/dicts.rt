@@ -2,9 +2,9 @@
 ghost use Rattle.std.specs.Prelude.{◌≡◌, ◌<◌, [], ◌∷◌, None, length, option_copied, option_map};
 ghost use Rattle.std.specs.Prelude.{slice_index_or};
 ghost use Rattle.arrow_array.specs.Batches.{AreFew};
-ghost use Rattle.dict_gather.specs.Dicts.{AreEach, nulls_at, buffers_at};
+ghost use Rattle.arrow_array.specs.Dicts.{AreEach, nulls_at, buffers_at};
 
-use arrow_array::Array;
+use crate::batch::Array;
 use cell_model::Buffers;
 use std::marker::Model;
 
@@ -18,7 +18,7 @@ pub struct Dictionary {
 impl Model for Dictionary {
     ghost use Rattle.std.specs.Prelude.{◌≡◌, [], ◌∷◌};
     ghost use Rattle.arrow_array.specs.Batches.{AreFew};
-    ghost use Rattle.dict_spec.specs.Batches.{Dictionary as DictionaryValue};
+    ghost use Rattle.arrow_spec.specs.DictBatches.{Dictionary as DictionaryValue};
 
     ghost Value = { DictionaryValue };
 
@@ -63,8 +63,8 @@ pub struct Dicts {
 
 impl Model for Dicts {
     ghost use Rattle.std.specs.Prelude.{◌≡◌};
-    ghost use Rattle.dict_spec.specs.Batches.{DictBatch};
-    ghost use Rattle.dict_gather.specs.Dicts.{AreEach};
+    ghost use Rattle.arrow_spec.specs.DictBatches.{DictBatch};
+    ghost use Rattle.arrow_array.specs.Dicts.{AreEach};
 
     ghost Value = { DictBatch };
 

@@ -2,7 +2,7 @@
 use Rattle.std.specs.Prelude.{◌≡◌, ℕ, List, [], length, Option, slice_index_or}
 use Rattle.arrow_array.specs.Batches.{AreFew}
 use Rattle.arrow_spec.specs.Batches.{Array}
-use Rattle.dict_spec.specs.Batches.{Dictionary}
+use Rattle.arrow_spec.specs.DictBatches.{Dictionary}
 
 -- there is a dictionary or none for each column, and few columns
 pub record AreEach (dictionaries : List (Option Dictionary)) (arrays : List Array) : Type 0 where
