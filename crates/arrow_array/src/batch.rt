@@ -1,8 +1,9 @@
 //! A record batch and its columns: what is built of rows, and what a stream is written from.
-ghost use Rattle.std.specs.Prelude.{◌≡◌};
+ghost use Rattle.std.specs.Prelude.{◌≡◌, IfOk};
 ghost use Rattle.arrow_array.specs.Batches.{AreFew};
 
-use cell_model::Buffers;
+use cell_model::{Buffers, Bytes};
+use std::alloc::{AllocError, Global};
 use std::marker::Model;
 
 /// A column of a batch: how many of its slots are null, and its buffers.
@@ -26,6 +27,21 @@ impl Array {
         ensures { result ≡ record { nulls = nulls; buffers = buffers } }
     {
         Array { nulls, buffers }
+    }
+
+    /// The column with so many nulls and copies of these buffers.
+    pub fn copied(alloc: Global, nulls: u32, buffers: &[Bytes]) -> Result<Array, AllocError>
+        ensures { IfOk result (λ array. array
+            ≡ record { nulls = nulls; buffers = buffers.now }) }
+    {
+        let mut copies = Vec::with_capacity(alloc, buffers.len())?;
+        for buffer in buffers {
+            copies.push(Bytes::from_slice(alloc, buffer.as_slice())?)?;
+        }
+        Ok(Array {
+            nulls,
+            buffers: Buffers::from(copies),
+        })
     }
 
     /// How many slots are null.

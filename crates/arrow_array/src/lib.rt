@@ -5,9 +5,11 @@ mod arrays;
 mod batch;
 mod bitmaps;
 mod cells;
+mod dicts;
 mod numbers;
 mod values;
 
 pub use arrays::{all_fit, build};
 pub use batch::{Array, Batch};
+pub use dicts::{Dictionary, Dicts};
 pub use numbers::{add_offset, add_u32};

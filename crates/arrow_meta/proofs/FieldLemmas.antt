@@ -8,7 +8,7 @@ use Rattle.std.specs.Int.{Width, w16, w32, to_le_bytes}
 use Rattle.flat_build.specs.Layout.{empty_flatbuffer, overwritten, with_table, with_vector, with_string, table_place, length_place, string_end, vector_end}
 use Rattle.arrow_spec.specs.Flatbuffers as flat
 use Rattle.arrow_spec.specs.Flatbuffers.{Object, Field, number, reference, absent, with_fields, place_of, gap, aligned, table, string, references, vector_of_tables, flatbuffer}
-use Rattle.arrow_meta.specs.Laying.{IsLaid}
+use Rattle.arrow_meta.specs.Laying.{BeginsWith, IsLaid, laid_fields}
 
 -- a piece written behind a front
 pub overwritten-behind :
@@ -37,16 +37,6 @@ length-overwritten body at piece h =
     let front : length (take at body) ≡ at = length-take-le at body low in
     rw (length-append (take at body ++ piece) (drop (at + length piece) body), length-append (take at body) piece, front, length-drop (at + length piece) body)
     (omega arith)
-
--- The bytes of a whole flatbuffer after the fields of the table or vector at `place` were laid.
-abbrev pub laid_fields : ℕ → List ℕ → List Field → List ℕ
-laid_fields place bytes [] = bytes
-laid_fields place bytes (number at width value ∷ fields) =
-    laid_fields place (overwritten bytes (place + at) (to_le_bytes width value)) fields
-laid_fields place bytes (reference at object ∷ fields) =
-    let target = object (length bytes) in
-    laid_fields place (overwritten (bytes ++ target.bytes) (place + at) (to_le_bytes w32 (target.place - (place + at)))) fields
-laid_fields place bytes (absent ∷ fields) = laid_fields place bytes fields
 
 -- where a field ends in its table
 abbrev pub end_of : Field → ℕ
@@ -172,6 +162,11 @@ pub record LaidTo (place : ℕ) (bytes : List ℕ) (fields : List Field) (last :
 pub no_more : (place : ℕ) (last : List ℕ) → LaidTo place last [] last
 no_more place last = record { is = refl }
 
+-- whatever fields are left
+pub rest-laid : (place : ℕ) (bytes : List ℕ) (fields : List Field)
+    → LaidTo place bytes fields (laid_fields place bytes fields)
+rest-laid place bytes fields = record { is = refl }
+
 -- a number, and then the other fields
 pub after_number :
     {place at value : ℕ} {width : Width} {bytes : List ℕ} {fields : List Field} {last : List ℕ} (next : List ℕ)
@@ -201,6 +196,13 @@ pub after_absent :
     {place : ℕ} {bytes : List ℕ} {fields : List Field} {last : List ℕ}
     → LaidTo place bytes fields last → LaidTo place bytes (absent ∷ fields) last
 after_absent rest = record { is = rest.is }
+
+-- the first fields, and then the others
+pub after_front :
+    {place most : ℕ} {front fields : List Field} {bytes last : List ℕ} (next : List ℕ)
+    → BeginsWith place front most bytes next
+    → LaidTo place next fields last → LaidTo place bytes (front ++ fields) last
+after_front {fields = fields} next begun rest = record { is = rest.is ∙ sym (begun.laid fields) }
 
 -- A table whose fields were laid: it stands where its vtable ends, and its bytes are behind the old
 -- ones.

@@ -1,3 +1,4 @@
 mod FieldLemmas
+mod HeaderLemmas
 mod PairLemmas
 mod ReadLemmas

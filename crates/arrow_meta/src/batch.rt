@@ -1,12 +1,39 @@
-//! The laying of a record batch's table, with its nodes and the places of its buffers.
+//! The laying of a record batch's table, with its nodes and the places of its buffers, and of the
+//! table of a dictionary that has such values (Message.fbs, "RecordBatch", "DictionaryBatch").
 ghost use Rattle.std.specs.Prelude.{◌≡◌, ◌+◌, ◌*◌, ◌-◌, ◌^◌, ◌<◌, ◌≤◌, IfOk, length};
 ghost use Rattle.arrow_spec.specs.Flatbuffers.{vector_of_pairs};
-ghost use Rattle.arrow_spec.specs.Metadata.{record_batch_table};
+ghost use Rattle.arrow_spec.specs.Metadata.{dictionary_batch_table, record_batch_table};
 ghost use Rattle.std.specs.Int.{w64, cast_unsigned};
 ghost use Rattle.arrow_meta.specs.Laying.{IsLaid};
 
 use flat_build::FlatBuild;
 use std::alloc::AllocError;
+
+/// Lays the table of the dictionary with this id, whose values are a record batch with its nodes and
+/// the places of its buffers. Answers the table's place.
+pub fn lay_dictionary_batch(
+    build: &mut FlatBuild,
+    id: u32,
+    rows: u64,
+    nodes: &[(i64, i64)],
+    buffers: &[(i64, i64)],
+) -> Result<u32, AllocError>
+    requires few { length nodes.now + length buffers.now < 2 ^ 26 }
+    requires room { length build.old ≤ 2 ^ 12 }
+    ensures { IfOk result (λ place. IsLaid
+        (dictionary_batch_table id rows nodes.now buffers.now)
+        (256 + 16 * (length nodes.now + length buffers.now))
+        build.old
+        build.new
+        place) }
+{
+    let dictionary = build.table(&[10, 17, 8, 4, 16])?;
+    build.number(dictionary + 8, 8, u64::from(id));
+    let batch = lay_record_batch(build, rows, nodes, buffers)?;
+    build.refer(dictionary + 4, batch);
+    build.number(dictionary + 16, 1, 0);
+    Ok(dictionary)
+}
 
 /// Lays a record batch's table with its nodes and the places of its buffers, and answers its place.
 pub fn lay_record_batch(

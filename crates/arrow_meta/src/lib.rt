@@ -6,13 +6,15 @@ mod batch;
 mod batches;
 mod columns;
 mod fields;
+mod headers;
 mod heads;
 mod message;
 mod schemas;
+mod type_tables;
 mod types;
 
 pub use batches::{BatchMeta, read_batch};
 pub use fields::NotRead;
 pub use heads::read_head;
-pub use message::{batch_message, schema_message};
+pub use message::{batch_message, dict_schema_message, dictionary_message, schema_message};
 pub use schemas::read_schema;

@@ -1,2 +1,4 @@
+pub mod Among
 pub mod BitLemmas
+pub mod Rising
 pub mod SizeLemmas

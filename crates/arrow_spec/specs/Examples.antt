@@ -5,6 +5,8 @@ use Rattle.cell_model.specs.declared.cell.Cell.TheVariants.{Null, Num, Truth, Te
 use Rattle.cell_model.specs.declared.column.Column.{Column}
 use Rattle.cell_model.specs.declared.kind.Kind.{Kind}
 use Rattle.cell_model.specs.declared.kind.Kind.TheVariants as kind
+use Rattle.arrow_spec.specs.Fields.{plain_fields}
+use Rattle.arrow_spec.specs.Metadata.{flatbuffer_of, schema}
 
 -- `key:i64`
 abbrev pub key : Column
@@ -17,6 +19,10 @@ key_alone = key ∷ []
 -- the key and a column `v` of this kind
 abbrev pub key_and : Kind → Bool → List Column
 key_and kind nullable = key ∷ record { name = codes "v"; kind = kind; nullable = nullable } ∷ []
+
+-- the flatbuffer of the schema of these two
+abbrev pub pair_flatbuffer : Kind → Bool → List ℕ
+pair_flatbuffer kind nullable = flatbuffer_of (schema (plain_fields (key_and kind nullable))) 0
 
 -- `key:i64 p:i8? q:bool? r:binary?`
 abbrev pub mixed_columns : List Column

@@ -1,8 +1,12 @@
 pub mod Bytes
 pub mod Arrays
 pub mod Batches
+pub mod Dictionaries
+pub mod DictBatches
+pub mod Fields
 pub mod Flatbuffers
 pub mod Metadata
 pub mod Streams
 pub mod Examples
 pub mod LaterKinds
+pub mod DictExamples

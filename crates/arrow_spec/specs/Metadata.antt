@@ -1,21 +1,25 @@
 -- The metadata of Arrow's messages, as flatbuffers. Field numbers, places and the numbers of types
 -- are those of the public schemas Message.fbs and Schema.fbs.
-use Rattle.std.specs.Prelude.{ℕ, ◌^◌, ◌<◌, List, [], ◌∷◌, map, ℤ}
+use Rattle.std.specs.Prelude.{ℕ, ◌^◌, ◌<◌, List, [], ◌∷◌, map, ℤ, Option, Some, None}
 use Rattle.std.specs.Int.{w8, w16, w32, w64, from_bool}
 use Rattle.cell_model.specs.declared.column.Column.{Column}
 use Rattle.cell_model.specs.declared.kind.Kind.{Kind}
 use Rattle.cell_model.specs.declared.kind.Kind.TheVariants as kind
+use Rattle.arrow_spec.specs.declared.fields.Encoding.{Encoding}
+use Rattle.arrow_spec.specs.declared.fields.Field.{Field}
 use Rattle.arrow_spec.specs.declared.types.ArrowType.{ArrowType}
 use Rattle.arrow_spec.specs.declared.types.ArrowType.TheVariants.{SignedInt, UnsignedInt, Date}
 use Rattle.arrow_spec.specs.declared.types.ArrowType.TheVariants.{FixedSizeBinary, Plain}
 use Rattle.arrow_spec.specs.Flatbuffers.{Object, number, reference, absent, table, string}
 use Rattle.arrow_spec.specs.Flatbuffers.{vector_of_pairs, vector_of_tables, flatbuffer}
 
--- What a message is: a schema of these columns, or a record batch of so many rows with its nodes
--- and the places of its buffers (Message.fbs, "MessageHeader").
+-- What a message is: a schema of these fields; a record batch of so many rows with its nodes and the
+-- places of its buffers; or the dictionary with this id, whose values are a record batch of one
+-- column (Message.fbs, "MessageHeader").
 pub data Header : Type 0 where
-  schema : List Column → Header
+  schema : List Field → Header
   record_batch : ℕ → List (ℤ × ℤ) → List (ℤ × ℤ) → Header
+  dictionary_batch : ℕ → ℕ → List (ℤ × ℤ) → List (ℤ × ℤ) → Header
 
 -- The table of types: that of each kind's values. Binary has the number 4, Utf8 5, Bool 6,
 -- LargeBinary 19 and LargeUtf8 20; a date's unit of days is 0.
@@ -76,9 +80,19 @@ FitsFields (FixedSizeBinary bytes) = bytes < 2 ^ 32
 FitsFields (Date unit) = unit < 2 ^ 16
 FitsFields (Plain id) = id < 2 ^ 8
 
--- Field: name, nullable, type_type, type, dictionary (absent), children (none).
-abbrev pub field_table : Column → Object
-field_table column =
+-- DictionaryEncoding: id, indexType (an Int), isOrdered (false).
+abbrev pub encoding_table : Encoding → Object
+encoding_table encoding =
+    table 17
+    (number 8 w64 encoding.id
+    ∷ reference 4 (table_of_type (type_of encoding.indices))
+    ∷ number 16 w8 0
+    ∷ [])
+
+-- Field: name, nullable, type_type, type, dictionary (absent where the column is not encoded),
+-- children (none).
+abbrev pub field_table_of : Column → Option Encoding → Object
+field_table_of column None =
     table 18
     (reference 4 (string column.name)
     ∷ number 16 w8 (from_bool column.nullable)
@@ -87,11 +101,23 @@ field_table column =
     ∷ absent
     ∷ reference 12 (vector_of_tables [])
     ∷ [])
+field_table_of column (Some encoding) =
+    table 22
+    (reference 4 (string column.name)
+    ∷ number 20 w8 (from_bool column.nullable)
+    ∷ number 21 w8 (number_of_type (type_of column.kind))
+    ∷ reference 8 (table_of_type (type_of column.kind))
+    ∷ reference 12 (encoding_table encoding)
+    ∷ reference 16 (vector_of_tables [])
+    ∷ [])
+
+abbrev pub field_table : Field → Object
+field_table field = field_table_of field.column field.encoding
 
 -- Schema: endianness (Little, 0), fields.
-abbrev pub schema_table : List Column → Object
-schema_table columns = table 10
-    (number 8 w16 0 ∷ reference 4 (vector_of_tables (map field_table columns)) ∷ [])
+abbrev pub schema_table : List Field → Object
+schema_table fields = table 10
+    (number 8 w16 0 ∷ reference 4 (vector_of_tables (map field_table fields)) ∷ [])
 
 -- RecordBatch: length, nodes, buffers.
 abbrev pub record_batch_table : ℕ → List (ℤ × ℤ) → List (ℤ × ℤ) → Object
@@ -99,15 +125,26 @@ record_batch_table rows nodes buffers =
     table 20 (number 8 w64 rows ∷ reference 4 (vector_of_pairs nodes) ∷ reference 16
     (vector_of_pairs buffers) ∷ [])
 
+-- DictionaryBatch: id, data, isDelta (false).
+abbrev pub dictionary_batch_table : ℕ → ℕ → List (ℤ × ℤ) → List (ℤ × ℤ) → Object
+dictionary_batch_table id rows nodes buffers =
+    table 17
+    (number 8 w64 id
+    ∷ reference 4 (record_batch_table rows nodes buffers)
+    ∷ number 16 w8 0
+    ∷ [])
+
 -- the table of a message's header
 abbrev pub header_table : Header → Object
-header_table (schema columns) = schema_table columns
+header_table (schema fields) = schema_table fields
 header_table (record_batch rows nodes buffers) = record_batch_table rows nodes buffers
+header_table (dictionary_batch id rows nodes buffers) = dictionary_batch_table id rows nodes buffers
 
--- the number of a header in the union of headers: Schema 1, RecordBatch 3
+-- the number of a header in the union of headers: Schema 1, DictionaryBatch 2, RecordBatch 3
 abbrev pub header_number : Header → ℕ
-header_number (schema columns) = 1
+header_number (schema fields) = 1
 header_number (record_batch rows nodes buffers) = 3
+header_number (dictionary_batch id rows nodes buffers) = 2
 
 -- Message: version (V5, 4), header_type, header, bodyLength.
 abbrev pub message_table : Header → ℕ → Object

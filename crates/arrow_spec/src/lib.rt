@@ -5,6 +5,8 @@
 //! definitions that is written out, or what holds of them all.
 #![tactic(auto)]
 
+pub mod dictionaries;
+pub mod fields;
 pub mod types;
 
 ghost use Rattle.std.specs.Prelude.{◌≡◌, ◌++◌, ◌+◌, ◌*◌, ◌/◌, ◌%◌, ◌^◌, ◌-◌, ℕ, ℤ, pos, negsuc};
@@ -16,14 +18,16 @@ ghost use Rattle.cell_model.specs.declared.kind.Kind.TheVariants as kind;
 ghost use Rattle.arrow_spec.specs.Arrays.{column_buffers};
 ghost use Rattle.arrow_spec.specs.Batches.{batch_of};
 ghost use Rattle.arrow_spec.specs.Bytes.{bitmap};
-ghost use Rattle.arrow_spec.specs.Examples.{key_alone, key_and, mixed_columns, three_keys};
+ghost use Rattle.arrow_spec.specs.Examples.{key_alone, key_and, mixed_columns, pair_flatbuffer};
+ghost use Rattle.arrow_spec.specs.Examples.{three_keys};
 ghost use Rattle.arrow_spec.specs.Examples.{three_texts, x_rows, nine_rows, mixed_rows};
 ghost use Rattle.arrow_spec.specs.Examples.{key_schema_bytes, three_keys_bytes};
 ghost use Rattle.arrow_spec.specs.Examples.{key_and_text_flatbuffer, three_texts_body, mixed_body};
 ghost use Rattle.arrow_spec.specs.LaterKinds.{later_bytes, later_columns, later_rows};
-ghost use Rattle.arrow_spec.specs.Metadata.{schema, record_batch, flatbuffer_of};
+ghost use Rattle.arrow_spec.specs.Metadata.{record_batch, flatbuffer_of};
 ghost use Rattle.arrow_spec.specs.Streams.{schema_message, batch_message, end_word, stream_of};
 
+pub use fields::{Encoding, Field};
 pub use types::ArrowType;
 
 /// Bits fill each byte from its lowest bit on: nine take two bytes, and the last seven bits are 0.
@@ -98,7 +102,7 @@ pub fn three_keys_make_344_bytes()
 
 /// With a nullable text beside the key, the schema's message has 224 bytes.
 pub fn a_schema_of_key_and_text_has_224_bytes()
-    ensures flatbuffer { flatbuffer_of (schema (key_and kind.Utf8 true)) 0
+    ensures flatbuffer { pair_flatbuffer kind.Utf8 true
         ≡ key_and_text_flatbuffer }
     ensures message { schema_message (key_and kind.Utf8 true)
         ≡ 0xff ∷ 0xff ∷ 0xff ∷ 0xff ∷ 0xd8 ∷ 0 ∷ 0 ∷ 0 ∷ [] ++ key_and_text_flatbuffer }
@@ -108,42 +112,42 @@ pub fn a_schema_of_key_and_text_has_224_bytes()
 /// Of a second field, the bytes from place 184 on tell whether it is nullable, its type's number
 /// (Int 2, Bool 6, Binary 4), its name, and its type's table.
 pub fn fields_tell_their_types()
-    ensures u16 { drop 184 (flatbuffer_of (schema (key_and kind.U16 false)) 0)
+    ensures u16 { drop 184 (pair_flatbuffer kind.U16 false)
         ≡ 0x00 ∷ 0x02 ∷ 0x00 ∷ 0x00 ∷ 0x01 ∷ 0x00 ∷ 0x00 ∷ 0x00
         ∷ 0x76 ∷ 0x00 ∷ 0x00 ∷ 0x00 ∷ 0x00 ∷ 0x00 ∷ 0x00 ∷ 0x00
         ∷ 0x08 ∷ 0x00 ∷ 0x09 ∷ 0x00 ∷ 0x04 ∷ 0x00 ∷ 0x08 ∷ 0x00
         ∷ 0x08 ∷ 0x00 ∷ 0x00 ∷ 0x00 ∷ 0x10 ∷ 0x00 ∷ 0x00 ∷ 0x00
         ∷ 0x00 ∷ 0x00 ∷ 0x00 ∷ 0x00 ∷ 0x00 ∷ 0x00 ∷ 0x00 ∷ 0x00
         ∷ [] }
-    ensures bool { drop 184 (flatbuffer_of (schema (key_and kind.Bool false)) 0)
+    ensures bool { drop 184 (pair_flatbuffer kind.Bool false)
         ≡ 0x00 ∷ 0x06 ∷ 0x00 ∷ 0x00 ∷ 0x01 ∷ 0x00 ∷ 0x00 ∷ 0x00
         ∷ 0x76 ∷ 0x00 ∷ 0x00 ∷ 0x00 ∷ 0x00 ∷ 0x00 ∷ 0x00 ∷ 0x00
         ∷ 0x04 ∷ 0x00 ∷ 0x04 ∷ 0x00 ∷ 0x00 ∷ 0x00 ∷ 0x00 ∷ 0x00
         ∷ 0x08 ∷ 0x00 ∷ 0x00 ∷ 0x00 ∷ 0x00 ∷ 0x00 ∷ 0x00 ∷ 0x00
         ∷ [] }
-    ensures binary { slice_index (flatbuffer_of (schema (key_and kind.Binary false)) 0) 185 ≡ 4 }
-    ensures large_binary { slice_index (flatbuffer_of (schema (key_and kind.LargeBinary false)) 0)
+    ensures binary { slice_index (pair_flatbuffer kind.Binary false) 185 ≡ 4 }
+    ensures large_binary { slice_index (pair_flatbuffer kind.LargeBinary false)
         185 ≡ 19 }
 {}
 
 /// The table of an integer type, which stands at 208 for a second field, tells its width in bits,
 /// and 1 where it has a sign.
 pub fn integers_tell_their_width_and_sign()
-    ensures i8 { slice_range (flatbuffer_of (schema (key_and kind.I8 false)) 0) 212 217
+    ensures i8 { slice_range (pair_flatbuffer kind.I8 false) 212 217
         ≡ 8 ∷ 0 ∷ 0 ∷ 0 ∷ 1 ∷ [] }
-    ensures i16 { slice_range (flatbuffer_of (schema (key_and kind.I16 false)) 0) 212 217
+    ensures i16 { slice_range (pair_flatbuffer kind.I16 false) 212 217
         ≡ 16 ∷ 0 ∷ 0 ∷ 0 ∷ 1 ∷ [] }
-    ensures i32 { slice_range (flatbuffer_of (schema (key_and kind.I32 false)) 0) 212 217
+    ensures i32 { slice_range (pair_flatbuffer kind.I32 false) 212 217
         ≡ 32 ∷ 0 ∷ 0 ∷ 0 ∷ 1 ∷ [] }
-    ensures i64 { slice_range (flatbuffer_of (schema (key_and kind.I64 false)) 0) 212 217
+    ensures i64 { slice_range (pair_flatbuffer kind.I64 false) 212 217
         ≡ 64 ∷ 0 ∷ 0 ∷ 0 ∷ 1 ∷ [] }
-    ensures u8 { slice_range (flatbuffer_of (schema (key_and kind.U8 false)) 0) 212 217
+    ensures u8 { slice_range (pair_flatbuffer kind.U8 false) 212 217
         ≡ 8 ∷ 0 ∷ 0 ∷ 0 ∷ 0 ∷ [] }
-    ensures u16 { slice_range (flatbuffer_of (schema (key_and kind.U16 false)) 0) 212 217
+    ensures u16 { slice_range (pair_flatbuffer kind.U16 false) 212 217
         ≡ 16 ∷ 0 ∷ 0 ∷ 0 ∷ 0 ∷ [] }
-    ensures u32 { slice_range (flatbuffer_of (schema (key_and kind.U32 false)) 0) 212 217
+    ensures u32 { slice_range (pair_flatbuffer kind.U32 false) 212 217
         ≡ 32 ∷ 0 ∷ 0 ∷ 0 ∷ 0 ∷ [] }
-    ensures u64 { slice_range (flatbuffer_of (schema (key_and kind.U64 false)) 0) 212 217
+    ensures u64 { slice_range (pair_flatbuffer kind.U64 false) 212 217
         ≡ 64 ∷ 0 ∷ 0 ∷ 0 ∷ 0 ∷ [] }
 {}
 

@@ -23,8 +23,8 @@ use Rattle.cell_model.specs.declared.kind.Kind.TheVariants.{I32}
 use Rattle.cell_model.specs.declared.values.Values.{Values}
 use Rattle.cell_model.specs.declared.values.Values.TheVariants.{Signed, Unsigned, Truths, Texts, Blobs, Strips}
 use Rattle.cell_model.specs.declared.width.OffsetWidth.TheVariants as offset
-use Rattle.dict_spec.specs.Batches.{Dictionary, array_of, column_dictionary, dictionary_with, encoded_array}
-use Rattle.dict_spec.specs.Dictionaries.{are_encoded, dictionary_cells, dictionary_of, index_cells, index_in, is_encoded, place_in, value_cell}
+use Rattle.arrow_spec.specs.DictBatches.{Dictionary, array_of, column_dictionary, dictionary_with, encoded_array}
+use Rattle.arrow_spec.specs.Dictionaries.{are_encoded, dictionary_cells, dictionary_of, index_cells, index_in, is_encoded, place_in, value_cell}
 use Rattle.dict_gather.specs.Places.{indices_of}
 use Rattle.dict_gather.specs.Values.{starts_from, value_buffers_of}
 use Rattle.dict_gather.proofs.SlotLemmas.{length-starts, null_count-cons}

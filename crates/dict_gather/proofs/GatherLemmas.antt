@@ -10,9 +10,9 @@ use Rattle.cell_model.specs.declared.cell.Cell.{Cell}
 use Rattle.cell_model.specs.declared.column.Column.{Column}
 use Rattle.cell_model.specs.declared.kind.Kind.{Kind}
 use Rattle.cell_model.specs.declared.kind.Kind.TheVariants.{I32}
-use Rattle.dict_spec.specs.Batches.{DictBatch, Dictionary, array_of, column_dictionary, dict_batch_of, encoded_array, of_columns}
-use Rattle.dict_spec.specs.Dictionaries.{is_encoded}
-use Rattle.dict_gather.specs.Dicts.{AreEach}
+use Rattle.arrow_spec.specs.DictBatches.{DictBatch, Dictionary, array_of, column_dictionary, dict_batch_of, encoded_array, of_columns}
+use Rattle.arrow_spec.specs.Dictionaries.{is_encoded}
+use Rattle.arrow_array.specs.Dicts.{AreEach}
 use Rattle.dict_gather.specs.Encoded.{IsColumn, batch_with, encoded_column}
 use Rattle.dict_gather.specs.declared.encode.Encoded.{Encoded}
 use Rattle.dict_gather.proofs.EncodeLemmas.{array-lacks, array-there, encoded-buffers}

@@ -10,9 +10,9 @@ use Rattle.arrow_spec.specs.Arrays.{value_of}
 use Rattle.cell_model.specs.Values.{is_null}
 use Rattle.cell_model.specs.declared.cell.Cell.{Cell}
 use Rattle.cell_model.specs.declared.cell.Cell.TheVariants.{Null}
-use Rattle.dict_spec.specs.Dictionaries.{dictionary_of, place_in}
-use Rattle.dict_spec.proofs.Among.{Among, AmongCells}
-use Rattle.dict_spec.proofs.Rising.{dictionary-is}
+use Rattle.arrow_spec.specs.Dictionaries.{dictionary_of, place_in}
+use Rattle.arrow_spec.proofs.Among.{Among, AmongCells}
+use Rattle.arrow_spec.proofs.Rising.{dictionary-is}
 use Rattle.dict_gather.specs.Places.{PlacedValue, indices_of, placed_from}
 use Rattle.dict_gather.proofs.WalkLemmas.{IsPassed, Tells}
 

@@ -9,9 +9,9 @@ use Rattle.std.proofs.lemmas.Bool.{true≢false, cases_lt, cases_eq}
 use Rattle.std.proofs.lemmas.Cmp.{nat_list_cmp_total, tied_itself}
 use Rattle.std.proofs.lemmas.List.{get_or-set_same, get_or-set_other, get_or_default, length-set, length-replicate}
 use Rattle.std.proofs.lemmas.Slice.Eq.{bytes_eq-Decides}
-use Rattle.dict_spec.specs.Dictionaries.{place_in}
-use Rattle.dict_spec.proofs.Among.{Among, equal}
-use Rattle.dict_spec.proofs.Rising.{IsBefore, Rises, before-one, rises-cons, rises-head, rises-nil, rises-tail}
+use Rattle.arrow_spec.specs.Dictionaries.{place_in}
+use Rattle.arrow_spec.proofs.Among.{Among, equal}
+use Rattle.arrow_spec.proofs.Rising.{IsBefore, Rises, before-one, rises-cons, rises-head, rises-nil, rises-tail}
 use Rattle.dict_gather.specs.Places.{PlacedValue, place_cmp}
 use Rattle.dict_gather.specs.Walks.{AddsIfNew, IsNew}
 

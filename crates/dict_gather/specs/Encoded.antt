@@ -6,7 +6,7 @@ use Rattle.cell_model.specs.declared.cell.Cell.{Cell}
 use Rattle.cell_model.specs.declared.column.Column.{Column}
 use Rattle.cell_model.specs.declared.kind.Kind.{Kind}
 use Rattle.dict_gather.specs.declared.encode.Encoded.{Encoded}
-use Rattle.dict_spec.specs.Batches.{array_of, column_dictionary, encoded_array}
+use Rattle.arrow_spec.specs.DictBatches.{array_of, column_dictionary, encoded_array}
 
 -- the column of a batch of so many rows has these cells, of this kind
 pub record IsColumn (kind : Kind) (cells : List Cell) (rows : ℕ) (array : Array) : Type 0 where

@@ -1,5 +1,4 @@
 pub mod Columns
-pub mod Dicts
 pub mod Encoded
 pub mod Heads
 pub mod Places

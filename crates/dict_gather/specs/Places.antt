@@ -6,7 +6,7 @@ use Rattle.std.specs.declared.cmp.Ordering.{Ordering}
 use Rattle.arrow_spec.specs.Arrays.{value_of}
 use Rattle.cell_model.specs.Values.{is_null}
 use Rattle.cell_model.specs.declared.cell.Cell.{Cell}
-use Rattle.dict_spec.specs.Dictionaries.{dictionary_of, place_in}
+use Rattle.arrow_spec.specs.Dictionaries.{dictionary_of, place_in}
 
 -- a value, and the slot in which it stands
 pub record PlacedValue : Type 0 where

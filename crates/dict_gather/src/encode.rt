@@ -5,19 +5,18 @@ ghost use Rattle.cell_model.specs.Kinds.{values_of};
 ghost use Rattle.cell_model.specs.declared.cell.Cell.{Cell};
 ghost use Rattle.cell_model.specs.declared.kind.Kind.{Kind};
 ghost use Rattle.cell_model.specs.declared.kind.Kind.TheVariants as kind;
-ghost use Rattle.dict_spec.specs.Batches.{array_of, column_dictionary, dictionary_with};
-ghost use Rattle.dict_spec.specs.Batches.{encoded_array};
-ghost use Rattle.dict_spec.specs.Dictionaries.{dictionary_cells, index_cells, is_encoded};
-ghost use Rattle.dict_spec.specs.Dictionaries.{value_cell};
+ghost use Rattle.arrow_spec.specs.DictBatches.{array_of, column_dictionary, dictionary_with};
+ghost use Rattle.arrow_spec.specs.DictBatches.{encoded_array};
+ghost use Rattle.arrow_spec.specs.Dictionaries.{dictionary_cells, index_cells, is_encoded};
+ghost use Rattle.arrow_spec.specs.Dictionaries.{value_cell};
 ghost use Rattle.dict_gather.specs.Columns.{HasCells};
 ghost use Rattle.dict_gather.specs.Encoded.{IsColumn};
 ghost use Rattle.dict_gather.specs.Places.{indices_of};
 
-use crate::dicts::Dictionary;
 use crate::slots::{VariableColumn, placed};
 use crate::values::{index_bytes, value_buffers};
 use crate::walk::walk;
-use arrow_array::Array;
+use arrow_array::{Array, Dictionary};
 use cell_model::{Buffers, Bytes};
 use std::alloc::{AllocError, Global};
 
@@ -73,14 +72,9 @@ fn as_it_is(alloc: Global, array: &Array) -> Result<Encoded, AllocError>
     ensures dictionary { IfOk result (λ encoded. encoded.dictionary ≡ None) }
     ensures array { IfOk result (λ encoded. encoded.array ≡ array.now) }
 {
-    let buffers = array.buffers().as_slice();
-    let mut copies = Vec::with_capacity(alloc, buffers.len())?;
-    for buffer in buffers {
-        copies.push(Bytes::from_slice(alloc, buffer.as_slice())?)?;
-    }
     Ok(Encoded {
         dictionary: None,
-        array: Array::new(array.nulls(), Buffers::from(copies)),
+        array: Array::copied(alloc, array.nulls(), array.buffers().as_slice())?,
     })
 }
 

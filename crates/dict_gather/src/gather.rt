@@ -3,12 +3,11 @@ ghost use Rattle.std.specs.Prelude.{◌≡◌, ◌<◌, IfOk, List, Ok, length, 
 ghost use Rattle.arrow_array.specs.Batches.{AreFew};
 ghost use Rattle.cell_model.specs.declared.cell.Cell.{Cell};
 ghost use Rattle.cell_model.specs.declared.column.Column.{Column};
-ghost use Rattle.dict_spec.specs.Batches.{dict_batch_of, of_columns};
+ghost use Rattle.arrow_spec.specs.DictBatches.{dict_batch_of, of_columns};
 ghost use Rattle.dict_gather.specs.Encoded.{batch_with, encoded_column};
 
-use crate::dicts::Dicts;
 use crate::encode::{Encoded, encode};
-use arrow_array::Batch;
+use arrow_array::{Batch, Dicts};
 use std::alloc::{AllocError, Global};
 use std::thread;
 use std::thread::Threads;

@@ -2,7 +2,6 @@
 //! "Dictionary-encoded Layout").
 #![tactic(auto)]
 
-mod dicts;
 mod encode;
 mod gather;
 mod heads;
@@ -11,5 +10,5 @@ mod slots;
 mod values;
 mod walk;
 
-pub use dicts::{Dictionary, Dicts};
+pub use arrow_array::{Dictionary, Dicts};
 pub use gather::gather_dict;

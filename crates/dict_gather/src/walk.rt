@@ -3,7 +3,7 @@
 ghost use Rattle.std.specs.Prelude.{◌≡◌, ◌<◌, IfOk, IsPermutation, IsSorted, List, length, map};
 ghost use Rattle.std.specs.Prelude.{OnOk, slice_index_or};
 ghost use Rattle.cell_model.specs.declared.cell.Cell.{Cell};
-ghost use Rattle.dict_spec.specs.Dictionaries.{dictionary_of};
+ghost use Rattle.arrow_spec.specs.Dictionaries.{dictionary_of};
 ghost use Rattle.dict_gather.specs.Places.{PlacedValue, indices_of, place_cmp, placed_from};
 ghost use Rattle.dict_gather.specs.Walks.{AddsIfNew, IsNew};
 

@@ -1,11 +1,14 @@
-//! What columns of texts are gathered to.
+//! What columns of texts are gathered to, and the stream of such a batch.
 ghost use Rattle.std.specs.Prelude.{◌≤◌, ◌^◌, All, length};
 ghost use Rattle.cell_model.specs.Rows.{Fits};
 
 use arrow_array::{all_fit, build};
+use byte_ports::ListSink;
 use cell_model::{Buffers, Bytes, Cell, Column, Kind, Row, Schema, are_named};
 use dict_gather::{Dicts, gather_dict};
+use ipc_write::Writer;
 use std::alloc::{AllocError, Global};
+use std::slice;
 use std::test::Fail;
 use std::thread::Threads;
 
@@ -45,6 +48,41 @@ fn nulls_have_an_empty_dictionary(rt: HostRuntime) -> Result<(), Fail> {
     let indices = indices_of(&dicts);
     assert!(rt; is(indices, 0, &[0]));
     assert!(rt; is(indices, 1, &[0, 0, 0, 0, 0, 0, 0, 0]));
+    Ok(())
+}
+
+/// Written in one call or by its pieces, the stream of the four texts has 792 bytes: the dictionary
+/// begins at 296, the record batch at 528, each with its version 48 bytes later.
+#[test]
+fn four_texts_make_792_bytes(rt: HostRuntime) -> Result<(), Fail> {
+    let alloc = rt.alloc();
+    let schema = schema(alloc)?;
+    let rows = rows_of(alloc, &["b", "a", "", "b"])?;
+    let dicts = gathered(&rt, alloc, rows.as_slice())?;
+    let mut pieces = Writer::new(ListSink::new(alloc, &[])?);
+    pieces.schema_dict(alloc, &schema)?;
+    pieces.dicts(alloc, &dicts)?;
+    pieces.finish()?;
+    let pieces = pieces.into_inner();
+    let mut whole = Writer::new(ListSink::new(alloc, &[])?);
+    whole.dict_stream(alloc, &schema, slice::from_ref(&dicts))?;
+    let whole = whole.into_inner();
+    let bytes = whole.written();
+    assert_eq!(rt; bytes.len(), 792);
+    assert!(rt; bytes == pieces.written());
+    for place in [48, 344, 576] {
+        assert_eq!(rt; bytes.get(place), Some(&4), "at {place}");
+    }
+    assert!(rt; begins_at(bytes, 296, &[0xff, 0xff, 0xff, 0xff, 200, 0, 0, 0]));
+    assert!(rt; begins_at(bytes, 520, "ab".as_bytes()));
+    assert!(rt; begins_at(bytes, 528, &[0xff, 0xff, 0xff, 0xff, 192, 0, 0, 0]));
+    assert!(rt;
+        begins_at(
+            bytes,
+            768,
+            &[1, 0, 0, 0, 0, 0, 0, 0, 0, 0, 0, 0, 1, 0, 0, 0]
+        )
+    );
     Ok(())
 }
 

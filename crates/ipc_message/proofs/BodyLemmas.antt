@@ -1,12 +1,12 @@
 -- Buffers that are added to a body, one or a column's at a time.
-use Rattle.std.proofs.Common.{◌≡◌, ℕ, ◌+◌, ℤ, pos, List, [], ◌∷◌, ◌++◌, length, refl, sym, ap, ◌∙◌, arith, append_assoc, length-append}
+use Rattle.std.proofs.Common.{◌≡◌, ℕ, ◌+◌, ℤ, pos, List, [], ◌∷◌, ◌++◌, length, refl, sym, ap, ◌∙◌, arith, append_assoc, length-append, Option}
 use Rattle.std.specs.Prelude.{flat_map}
 use Rattle.std.proofs.lemmas.Grind.{flat_map-append}
 use Rattle.arrow_spec.specs.Batches.{buffer_places}
 use Rattle.std.specs.Int.{w32, to_le_bytes}
 use Rattle.arrow_spec.specs.Bytes.{padded}
-use Rattle.arrow_spec.specs.Metadata.{record_batch, flatbuffer_of}
-use Rattle.arrow_spec.specs.Streams.{continuation, message}
+use Rattle.arrow_spec.specs.Metadata.{flatbuffer_of}
+use Rattle.arrow_spec.specs.Streams.{batch_header, continuation, message}
 
 -- the places of two lists of buffers, the second behind the first
 pub places-append :
@@ -50,17 +50,16 @@ length-places from (buffer ∷ buffers) = omega (arith, length-places (from + le
 
 -- What stands before the body of a message makes the message with it.
 pub message-is :
-    (rows r size : ℕ) (nodes n places p : List (ℤ × ℤ)) (body metadata m front : List ℕ)
-    → r ≡ rows → n ≡ nodes → p ≡ places → size ≡ length body
-    → metadata ≡ flatbuffer_of (record_batch r n p) size → m ≡ metadata
+    (id : Option ℕ) (rows size : ℕ) (nodes n places p : List (ℤ × ℤ)) (body metadata m front : List ℕ)
+    → n ≡ nodes → p ≡ places → size ≡ length body
+    → metadata ≡ flatbuffer_of (batch_header id rows n p) size → m ≡ metadata
     → front ≡ continuation ++ to_le_bytes w32 (length (padded m)) ++ padded m
-    → front ++ body ≡ message (flatbuffer_of (record_batch rows nodes places) (length body)) body
-message-is rows r size nodes n places p body metadata m front rows_is nodes_are places_are size_is metadata_is m_is front_is =
-    let told : m ≡ flatbuffer_of (record_batch rows nodes places) (length body) =
+    → front ++ body ≡ message (flatbuffer_of (batch_header id rows nodes places) (length body)) body
+message-is id rows size nodes n places p body metadata m front nodes_are places_are size_is metadata_is m_is front_is =
+    let told : m ≡ flatbuffer_of (batch_header id rows nodes places) (length body) =
     m_is ∙ metadata_is
-    ∙ ap (λ (x : ℕ). flatbuffer_of (record_batch x n p) size) rows_is
-    ∙ ap (λ (x : List (ℤ × ℤ)). flatbuffer_of (record_batch rows x p) size) nodes_are
-    ∙ ap (λ (x : List (ℤ × ℤ)). flatbuffer_of (record_batch rows nodes x) size) places_are
-    ∙ ap (λ (x : ℕ). flatbuffer_of (record_batch rows nodes places) x) size_is in
+    ∙ ap (λ (x : List (ℤ × ℤ)). flatbuffer_of (batch_header id rows x p) size) nodes_are
+    ∙ ap (λ (x : List (ℤ × ℤ)). flatbuffer_of (batch_header id rows nodes x) size) places_are
+    ∙ ap (λ (x : ℕ). flatbuffer_of (batch_header id rows nodes places) x) size_is in
     ap (λ (x : List ℕ). x ++ body) front_is
     ∙ ap (λ (x : List ℕ). (continuation ++ to_le_bytes w32 (length (padded x)) ++ padded x) ++ body) told

@@ -1,3 +1,4 @@
 mod BodyLemmas
 mod ImageLemmas
+mod MessageLemmas
 mod SmallBatches

@@ -54,7 +54,14 @@ fn put_together(alloc: Global, rows: u32, arrays: &[LentArray<'_>]) -> Result<Ve
         ≡ message_of_batch (batch_of_arrays rows arrays.now)) }
 {
     let body = Body::of_arrays(alloc, arrays)?;
-    let mut message = batch_head(Vec::new(alloc), body.size as usize, rows, arrays, &body)?;
+    let mut message = batch_head(
+        Vec::new(alloc),
+        body.size as usize,
+        None,
+        rows,
+        arrays,
+        &body,
+    )?;
     put_body(&mut message, arrays)?;
     Ok(message)
 }

@@ -1,5 +1,6 @@
--- What a call of a writer did to its sink. A piece of a stream is the message of a schema or of a
--- record batch, or the end word (Arrow columnar format, "IPC Streaming Format").
+-- What a call of a writer did to its sink. A piece of a stream is the message of a schema, those of a
+-- record batch with its dictionaries, or the end word (Arrow columnar format, "IPC Streaming
+-- Format").
 use Rattle.std.specs.Prelude.{◌≡◌, ℕ, Bool, true, false, List, Option, Result, Ok, Err}
 use Rattle.std.specs.Io.KnownBytes.{Appends}
 use Rattle.byte_ports.specs.Calls.{Rose, AppendsFront}
@@ -51,3 +52,24 @@ MakesPiece written faults old new piece (Ok done) = WroteAll written faults old 
 MakesPiece written faults old new piece (Err (Sink fault)) = SinkFailed written faults old new piece
     fault.earlier
 MakesPiece written faults old new piece (Err (Memory refused)) = (old.failed ≡ false) × (new ≡ old)
+
+-- A front of the pieces was written that is not all, and no call of the sink has failed.
+pub record WroteFront
+    {W : Type 0} (written : W → Option (List ℕ)) (faults : W → ℕ) (old new : WriterView W)
+    (pieces : List ℕ)
+    : Type 0 where
+  pub before : old.failed ≡ false
+  pub after : new.failed ≡ false
+  pub bytes : AppendsFront (written old.sink) (written new.sink) pieces
+  pub kept : faults new.sink ≡ faults old.sink
+
+-- The answer of a call that makes and writes pieces one after another: where there was no memory for
+-- one, those before it were written.
+abbrev pub WritesRun :
+    {W T : Type 0} → (W → Option (List ℕ)) → (W → ℕ) → WriterView W → WriterView W → List ℕ
+    → Result T PieceFault → Type 0
+WritesRun written faults old new pieces (Ok done) = WroteAll written faults old new pieces
+WritesRun written faults old new pieces (Err (Sink fault)) = SinkFailed written faults old new
+    pieces fault.earlier
+WritesRun written faults old new pieces (Err (Memory refused)) = WroteFront written faults old new
+    pieces

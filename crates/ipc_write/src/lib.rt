@@ -4,6 +4,7 @@
 
 mod faults;
 mod lent;
+mod stream;
 mod writer;
 
 pub use faults::{PieceFault, SinkFault};

@@ -1,21 +1,23 @@
 //! The writer of a stream, piece by piece, to a sink of which a call may fail.
-ghost use Rattle.std.specs.Prelude.{◌≡◌, ◌++◌, ◌≤◌, ◌^◌, [], false, All, IfOk, length, flat_map};
+ghost use Rattle.std.specs.Prelude.{◌≡◌, ◌++◌, ◌<◌, ◌≤◌, ◌^◌, [], false, All, length, flat_map};
 ghost use Rattle.arrow_spec.specs.Batches.{batch_of_arrays};
 ghost use Rattle.arrow_spec.specs.Bytes.{padded};
 ghost use Rattle.arrow_spec.specs.Streams.{schema_message, message_of_batch, batch_message};
-ghost use Rattle.arrow_spec.specs.Streams.{end_word};
+ghost use Rattle.arrow_spec.specs.Streams.{message as message_bytes};
+ghost use Rattle.arrow_spec.specs.Streams.{dict_schema_message, end_word, messages_of_dicts};
 ghost use Rattle.byte_ports.specs.Calls.{TellsAlike};
 ghost use Rattle.cell_model.specs.Rows.{Fits};
 ghost use Rattle.arrow_array.specs.Batches.{AreFew};
 ghost use Rattle.block_columns.specs.Images.{IsWhole, rows_of};
+ghost use Rattle.ipc_message.specs.Messages.{bytes_of};
 ghost use Rattle.ipc_write.specs.Calls.{WritesPiece, MakesPiece};
 
 use crate::faults::{PieceFault, SinkFault};
 use crate::lent::LentImage;
-use arrow_array::{Batch, build};
+use arrow_array::{Batch, Dicts, build};
 use byte_ports::{Failed, Sink, write_all};
 use cell_model::{Bytes, Row, Schema};
-use ipc_message::{Body, LentArray, are_small, batch_head, framed, of_batch, put_body};
+use ipc_message::{LentArray, Message, dict_messages, framed, make_message, of_batch};
 use std::alloc::{AllocError, Global};
 use std::marker::Model;
 
@@ -72,11 +74,25 @@ impl<W: Sink> Writer<W> {
         if self.failed {
             return Err(PieceFault::Sink(SinkFault { earlier: true }));
         }
-        let piece = schema_piece(alloc, schema)?;
-        match self.write(piece.as_slice()) {
-            Ok(()) => Ok(()),
-            Err(fault) => Err(PieceFault::Sink(fault)),
+        let metadata = arrow_meta::schema_message(alloc, schema)?;
+        self.without_body(alloc, &metadata)
+    }
+
+    /// Writes the message of a schema whose utf8 and binary columns are encoded by dictionaries,
+    /// with which a stream of such batches begins.
+    pub fn schema_dict(&mut self, alloc: Global, schema: &Schema) -> Result<(), PieceFault>
+        ensures answer { MakesPiece W.written W.faults self.old self.new
+            (dict_schema_message schema.now) result }
+        ensures told { TellsAlike (W.written self.old.sink) (W.written self.new.sink) }
+        ensures started { W.started self.new.sink ≡ W.started self.old.sink }
+        ensures loan { W.loan self.new.sink ≡ W.loan self.old.sink }
+        ensures counted { W.faults self.old.sink ≤ W.faults self.new.sink }
+    {
+        if self.failed {
+            return Err(PieceFault::Sink(SinkFault { earlier: true }));
         }
+        let metadata = arrow_meta::dict_schema_message(alloc, schema)?;
+        self.without_body(alloc, &metadata)
     }
 
     /// Writes the message of a record batch of these rows.
@@ -123,7 +139,7 @@ impl<W: Sink> Writer<W> {
             return Err(PieceFault::Sink(SinkFault { earlier: true }));
         }
         let arrays = of_batch(alloc, batch.arrays())?;
-        self.arrays(alloc, batch.rows(), arrays.as_slice())
+        self.arrays(alloc, batch.rows(), arrays)
     }
 
     /// Writes the message of the record batch of an image's rows.
@@ -152,7 +168,31 @@ impl<W: Sink> Writer<W> {
             return self.ready(message);
         }
         let arrays = image.columns(alloc)?;
-        self.arrays(alloc, image.rows(), arrays.as_slice())
+        self.arrays(alloc, image.rows(), arrays)
+    }
+
+    /// Writes the messages of a block's columns by dictionaries: the dictionaries, each in place of
+    /// the one before with its id, and the record batch. All of them are made before the first is
+    /// written.
+    ///
+    /// Where the buffers of a message are all small, it goes to the sink as one piece; else each
+    /// buffer is a piece of its own, from where it lies.
+    pub fn dicts(&mut self, alloc: Global, dicts: &Dicts) -> Result<(), PieceFault>
+        ensures answer { MakesPiece W.written W.faults self.old self.new
+            (messages_of_dicts dicts.now) result }
+        ensures told { TellsAlike (W.written self.old.sink) (W.written self.new.sink) }
+        ensures started { W.started self.new.sink ≡ W.started self.old.sink }
+        ensures loan { W.loan self.new.sink ≡ W.loan self.old.sink }
+        ensures counted { W.faults self.old.sink ≤ W.faults self.new.sink }
+    {
+        if self.failed {
+            return Err(PieceFault::Sink(SinkFault { earlier: true }));
+        }
+        let messages = dict_messages(alloc, dicts)?;
+        match self.messages(messages.as_slice()) {
+            Ok(()) => Ok(()),
+            Err(fault) => Err(PieceFault::Sink(fault)),
+        }
     }
 
     /// Writes the word that ends a stream.
@@ -181,33 +221,64 @@ impl<W: Sink> Writer<W> {
         }
     }
 
+    /// Writes the message that has this metadata and no body.
+    fn without_body(&mut self, alloc: Global, metadata: &Bytes) -> Result<(), PieceFault>
+        requires open { self.old.failed ≡ false }
+        requires short { length metadata.now < 2 ^ 31 }
+        ensures answer { MakesPiece W.written W.faults self.old self.new
+            (message_bytes metadata.now []) result }
+        ensures told { TellsAlike (W.written self.old.sink) (W.written self.new.sink) }
+        ensures started { W.started self.new.sink ≡ W.started self.old.sink }
+        ensures loan { W.loan self.new.sink ≡ W.loan self.old.sink }
+        ensures counted { W.faults self.old.sink ≤ W.faults self.new.sink }
+    {
+        let piece = framed(Vec::new(alloc), metadata.as_slice(), 0)?;
+        self.ready(piece.as_slice())
+    }
+
     /// Writes the message of a record batch of so many rows with these columns.
     fn arrays(
         &mut self,
         alloc: Global,
         rows: u32,
-        arrays: &[LentArray<'_>],
+        arrays: Vec<LentArray<'_>>,
     ) -> Result<(), PieceFault>
         requires open { self.old.failed ≡ false }
-        requires few { AreFew arrays.now }
+        requires few { AreFew arrays.items }
         ensures answer { MakesPiece
             W.written
             W.faults
             self.old
             self.new
-            (message_of_batch (batch_of_arrays rows arrays.now))
+            (message_of_batch (batch_of_arrays rows arrays.entry.items))
             result }
         ensures told { TellsAlike (W.written self.old.sink) (W.written self.new.sink) }
         ensures started { W.started self.new.sink ≡ W.started self.old.sink }
         ensures loan { W.loan self.new.sink ≡ W.loan self.old.sink }
         ensures counted { W.faults self.old.sink ≤ W.faults self.new.sink }
     {
-        let body = Body::of_arrays(alloc, arrays)?;
-        let small = are_small(arrays);
-        let room = if small { body.size as usize } else { 0 };
         let empty = self.empty(alloc);
-        let head = batch_head(empty, room, rows, arrays, &body)?;
-        self.message(head, small, arrays)
+        let message = make_message(empty, None, rows, arrays)?;
+        self.kept(message)
+    }
+
+    /// Writes a message, and keeps the memory of what was put together of it for the next one.
+    fn kept(&mut self, message: Message<'_>) -> Result<(), PieceFault>
+        requires { self.old.failed ≡ false }
+        ensures answer { MakesPiece W.written W.faults self.old self.new (bytes_of message.entry)
+            result }
+        ensures told { TellsAlike (W.written self.old.sink) (W.written self.new.sink) }
+        ensures started { W.started self.new.sink ≡ W.started self.old.sink }
+        ensures loan { W.loan self.new.sink ≡ W.loan self.old.sink }
+        ensures counted { W.faults self.old.sink ≤ W.faults self.new.sink }
+    {
+        let done = self.message(&message);
+        let Message { head, .. } = message;
+        self.spare = Some(head);
+        match done {
+            Ok(()) => Ok(()),
+            Err(fault) => Err(PieceFault::Sink(fault)),
+        }
     }
 
     /// An empty vector, in the spare memory if there is any.
@@ -222,79 +293,38 @@ impl<W: Sink> Writer<W> {
         bytes
     }
 
-    /// Writes what stands before a body, and then the body of these columns: as one piece if they
-    /// are small.
-    fn message(
-        &mut self,
-        head: Vec<u8>,
-        small: bool,
-        arrays: &[LentArray<'_>],
-    ) -> Result<(), PieceFault>
+    /// Writes messages one after another.
+    fn messages(&mut self, messages: &[Message<'_>]) -> Result<(), SinkFault>
         requires { self.old.failed ≡ false }
-        ensures answer { MakesPiece
-            W.written
-            W.faults
-            self.old
-            self.new
-            (head.items ++ flat_map padded (flat_map (λ array. array.buffers) arrays.now))
-            result }
+        ensures answer { WritesPiece W.written W.faults self.old self.new
+            (flat_map bytes_of messages.now) result }
         ensures told { TellsAlike (W.written self.old.sink) (W.written self.new.sink) }
         ensures started { W.started self.new.sink ≡ W.started self.old.sink }
         ensures loan { W.loan self.new.sink ≡ W.loan self.old.sink }
         ensures counted { W.faults self.old.sink ≤ W.faults self.new.sink }
     {
-        if small {
-            return self.together(head, arrays);
+        for message in messages {
+            match self.message(message) {
+                Ok(()) => {}
+                Err(fault) => return Err(fault),
+            }
         }
-        match self.apart(head.as_slice(), arrays) {
-            Ok(()) => Ok(()),
-            Err(fault) => Err(PieceFault::Sink(fault)),
-        }
+        Ok(())
     }
 
-    /// Puts the body of these columns behind what stands before it, and writes both as one piece,
-    /// whose memory is kept for the next one.
-    fn together(&mut self, head: Vec<u8>, arrays: &[LentArray<'_>]) -> Result<(), PieceFault>
+    /// Writes a message: what is put together of it, and then the buffers of its columns from where
+    /// they lie.
+    fn message(&mut self, message: &Message<'_>) -> Result<(), SinkFault>
         requires { self.old.failed ≡ false }
-        ensures answer { MakesPiece
-            W.written
-            W.faults
-            self.old
-            self.new
-            (head.items ++ flat_map padded (flat_map (λ array. array.buffers) arrays.now))
+        ensures answer { WritesPiece W.written W.faults self.old self.new (bytes_of message.now)
             result }
         ensures told { TellsAlike (W.written self.old.sink) (W.written self.new.sink) }
         ensures started { W.started self.new.sink ≡ W.started self.old.sink }
         ensures loan { W.loan self.new.sink ≡ W.loan self.old.sink }
         ensures counted { W.faults self.old.sink ≤ W.faults self.new.sink }
     {
-        let mut whole = head;
-        put_body(&mut whole, arrays)?;
-        let done = self.write(whole.as_slice());
-        self.spare = Some(whole);
-        match done {
-            Ok(()) => Ok(()),
-            Err(fault) => Err(PieceFault::Sink(fault)),
-        }
-    }
-
-    /// Writes what stands before a body, and then the buffers of these columns from where they lie.
-    fn apart(&mut self, head: &[u8], arrays: &[LentArray<'_>]) -> Result<(), SinkFault>
-        requires { self.old.failed ≡ false }
-        ensures answer { WritesPiece
-            W.written
-            W.faults
-            self.old
-            self.new
-            (head.now ++ flat_map padded (flat_map (λ array. array.buffers) arrays.now))
-            result }
-        ensures told { TellsAlike (W.written self.old.sink) (W.written self.new.sink) }
-        ensures started { W.started self.new.sink ≡ W.started self.old.sink }
-        ensures loan { W.loan self.new.sink ≡ W.loan self.old.sink }
-        ensures counted { W.faults self.old.sink ≤ W.faults self.new.sink }
-    {
-        match self.write(head) {
-            Ok(()) => self.body(arrays),
+        match self.write(message.head.as_slice()) {
+            Ok(()) => self.body(message.columns.as_slice()),
             Err(fault) => Err(fault),
         }
     }
@@ -378,12 +408,4 @@ impl<W: Sink> Writer<W> {
             }
         }
     }
-}
-
-/// The message of a schema.
-fn schema_piece(alloc: Global, schema: &Schema) -> Result<Vec<u8>, AllocError>
-    ensures { IfOk result (λ bytes. bytes.items ≡ schema_message schema.now) }
-{
-    let metadata = arrow_meta::schema_message(alloc, schema)?;
-    framed(Vec::new(alloc), metadata.as_slice(), 0)
 }

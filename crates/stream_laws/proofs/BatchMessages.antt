@@ -12,6 +12,7 @@ use Rattle.cell_model.specs.Kinds.{values_of}
 use Rattle.cell_model.specs.declared.values.Values.{Values}
 use Rattle.cell_model.specs.declared.values.Values.TheVariants.{Signed, Unsigned, Truths, Texts, Blobs, Strips}
 use Rattle.stream_spec.specs.declared.fault.Cause.{Cause}
+use Rattle.stream_spec.specs.declared.message.HeadKind.TheVariants as kind
 use Rattle.stream_spec.specs.Streams.{BatchRead}
 use Rattle.stream_laws.specs.Laws.{BatchIsRead}
 use Rattle.stream_laws.proofs.Messages.{HasMessage, header-there, table-behind}
@@ -67,7 +68,7 @@ batch_is_read columns rows rest told is =
     let table = header-there metadata header (length body) has in
     let there = batch-there metadata 44 batch.rows batch.nodes batch.buffers table in
     let frame = message-framed false laid body rest (omega (arith, there.inside)) small in
-    let head = head-found metadata (body ++ rest) header (length body) has
+    let head = head-found metadata (body ++ rest) header kind.Batch (length body) refl refl has
     (omega (arith, table-behind 44 20 (batch_fields batch.rows batch.nodes batch.buffers)))
     (omega (arith, there.inside)) body_small (omega (arith, length-append body rest)) in
     let found = batch-read metadata 44 batch.rows batch.nodes batch.buffers small

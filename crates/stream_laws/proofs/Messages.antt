@@ -1,17 +1,16 @@
 -- A message's table reads as the head that it was laid for.
-use Rattle.std.proofs.Common.{◌≡◌, ℕ, ◌+◌, ◌-◌, ◌^◌, ◌<◌, ◌≤◌, true, List, [], ◌∷◌, ◌++◌, map, get_or, replicate, refl, ap, ◌∙◌, arith, lit<, Option, Some, None, Result, Ok}
-use Rattle.std.specs.Prelude.{nat_lt}
+use Rattle.std.proofs.Common.{◌≡◌, ℕ, ◌+◌, ◌-◌, ◌^◌, ◌<◌, ◌≤◌, true, false, List, [], ◌∷◌, ◌++◌, map, get_or, replicate, refl, ap, ◌∙◌, arith, lit<, Option, Some, None, Result, Ok}
+use Rattle.std.specs.Prelude.{nat_lt, ◌==◌}
 use Rattle.std.proofs.lemmas.Bool.{lt-ltb}
 use Rattle.std.specs.Int.{Width, w8, w16, w32, w64, byte_len, to_le_bytes}
 use Rattle.arrow_spec.specs.Flatbuffers.{Laid, Field, number, reference, place_of, aligned, table}
-use Rattle.arrow_spec.specs.Metadata.{Header, schema, record_batch, header_table, header_number, message_table, flatbuffer_of}
+use Rattle.arrow_spec.specs.Metadata.{Header, schema, record_batch, dictionary_batch, header_table, header_number, message_table, flatbuffer_of}
 use Rattle.flat_read.specs.declared.FlatFault.{FlatFault}
 use Rattle.flat_read.specs.Reading.{target_at, vector_at, text_at, entry_place, field_at}
 use Rattle.stream_spec.specs.Checks.{◌>>=◌}
 use Rattle.stream_spec.specs.declared.message.Elements.{Elements}
 use Rattle.stream_spec.specs.declared.message.HeadKind.{HeadKind}
-use Rattle.stream_spec.specs.declared.message.HeadKind.TheVariants as kind
-use Rattle.stream_spec.specs.Metadata.{number_or, scalar, target_of, reference as reference_at, elements_of, elements, text_or_empty, text, message_table_at, head_of}
+use Rattle.stream_spec.specs.Metadata.{number_or, scalar, target_of, reference as reference_at, elements_of, elements, text_or_empty, text, message_table_at, kind_of_header, head_of}
 use Rattle.stream_laws.proofs.Pieces.{Has, has-left, has-right}
 use Rattle.stream_laws.proofs.Tables.{IsTableAt, number-read, target-read, field-read, table-there}
 
@@ -86,11 +85,6 @@ text-found bytes table index target string leads found =
 
 -- ---- the message
 
--- what a header is
-abbrev pub kind_of : Header → HeadKind
-kind_of (schema columns) = kind.Schema
-kind_of (record_batch rows nodes buffers) = kind.Batch
-
 -- the fields of a message: version, kind and table of its head, and the length of its body
 abbrev pub message_fields : Header → ℕ → List Field
 message_fields header body_length =
@@ -99,8 +93,9 @@ message_fields header body_length =
 
 -- The number of a header fits one byte.
 header_small : (header : Header) → header_number header < 256 ^ byte_len w8
-header_small (schema columns) = lit< tt
+header_small (schema fields) = lit< tt
 header_small (record_batch rows nodes buffers) = lit< tt
+header_small (dictionary_batch id rows nodes buffers) = lit< tt
 
 -- where a header's table stands: behind the message's, which stands at 24 with 20 bytes
 abbrev pub header_laid : Header → Laid
@@ -165,20 +160,17 @@ message-read bytes header body_length has ahead near small =
 
 -- The head of a message is of its header's kind, and tells where its table stands and how long the
 -- body is.
-pub head-read : (bytes : List ℕ) (header : Header) (body_length : ℕ)
+pub head-read : (bytes : List ℕ) (header : Header) (kind : HeadKind) (body_length : ℕ)
+    → kind_of_header (header_number header) ≡ Some kind
+    → (header_number header == 2) ≡ false
     → HasMessage bytes header body_length
     → 28 ≤ (header_laid header).place → (header_laid header).place < 2 ^ 32 → body_length < 2 ^ 63
     → head_of bytes ≡ Ok (record {
-      kind = kind_of header;
+      kind = kind;
       header = (header_laid header).place;
       body = body_length;
     })
-head-read bytes (schema columns) body_length has ahead near small =
-    let message = message-read bytes (schema columns) body_length has ahead near (omega arith) in
+head-read bytes header kind body_length is plain has ahead near small =
+    let message = message-read bytes header body_length has ahead near (omega arith) in
     let positive : nat_lt body_length (2 ^ 63) ≡ true = lt-ltb body_length (2 ^ 63) small in
-    rw (message, positive) refl
-head-read bytes (record_batch rows nodes buffers) body_length has ahead near small =
-    let message =
-    message-read bytes (record_batch rows nodes buffers) body_length has ahead near (omega arith) in
-    let positive : nat_lt body_length (2 ^ 63) ≡ true = lt-ltb body_length (2 ^ 63) small in
-    rw (message, positive) refl
+    rw (message, plain, is, positive) refl

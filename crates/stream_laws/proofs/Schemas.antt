@@ -1,5 +1,5 @@
 -- A schema's table reads as the columns that it was laid for.
-use Rattle.std.proofs.Common.{◌≡◌, ℕ, ◌+◌, ◌-◌, ◌*◌, ◌^◌, ◌<◌, ◌≤◌, Bool, true, false, List, [], ◌∷◌, length, map, refl, sym, ap, ◌∙◌, subst, arith, lit<, Some, Ok, Option, Result}
+use Rattle.std.proofs.Common.{◌≡◌, ℕ, ◌+◌, ◌-◌, ◌*◌, ◌^◌, ◌<◌, ◌≤◌, Bool, true, false, List, [], ◌∷◌, length, map, refl, sym, ap, ◌∙◌, subst, arith, lit<, None, Some, Ok, Option, Result}
 use Rattle.std.specs.Prelude.{not, ◌==◌, nat_le}
 use Rattle.std.specs.Str.{is_utf8}
 use Rattle.std.proofs.lemmas.Str.{is_utf8-from_IsUtf8}
@@ -14,8 +14,9 @@ use Rattle.cell_model.specs.Widths.{most_bytes}
 use Rattle.cell_model.specs.declared.column.Column.{Column}
 use Rattle.cell_model.specs.declared.kind.Kind.{Kind}
 use Rattle.cell_model.specs.declared.kind.Kind.TheVariants as kinds
+use Rattle.arrow_spec.specs.Fields.{plain_field, plain_fields}
 use Rattle.arrow_spec.specs.Flatbuffers.{Object, Field, number, reference, absent, length_place, string, references, vector_of_tables}
-use Rattle.arrow_spec.specs.Metadata.{int_table, fixed_table, date_table, type_of, table_of_type, number_of_type, field_table, schema_table}
+use Rattle.arrow_spec.specs.Metadata.{int_table, fixed_table, date_table, type_of, table_of_type, number_of_type, field_table, field_table_of, schema_table}
 use Rattle.arrow_spec.specs.declared.types.ArrowType.{ArrowType}
 use Rattle.arrow_spec.specs.declared.types.ArrowType.TheVariants.{SignedInt, UnsignedInt, FixedSizeBinary, Date, Plain}
 use Rattle.flat_read.specs.declared.FlatFault.{FlatFault}
@@ -248,17 +249,17 @@ field_of column type_at = record {
 -- where a column's type stands, if its field stands behind this end
 abbrev type_end : Column → ℕ → ℕ
 type_end column end =
-    let behind : ℕ = (field_table column end).place + 18 in
+    let behind : ℕ = (field_table_of column None end).place + 18 in
     behind + length (string column.name behind).bytes
 
 module _ (bytes : List ℕ) (end : ℕ) (column : Column) (small : length bytes < 2 ^ 31)
     (short : length column.name ≤ most_bytes) (wide : has_width (values_of column.kind) ≡ true)
-    (has : Has bytes end (field_table column end).bytes) where
+    (has : Has bytes end (field_table_of column None end).bytes) where
   abbrev fields : List Field
   fields = column_fields column
 
   abbrev place : ℕ
-  place = (field_table column end).place
+  place = (field_table_of column None end).place
 
   abbrev type_place : ℕ
   type_place = (table_of_type (type_of column.kind) (type_end column end)).place
@@ -351,7 +352,7 @@ module _ (bytes : List ℕ) (end : ℕ) (column : Column) (small : length bytes 
 columns-read : (bytes : List ℕ) (place end from first k : ℕ) (columns : List Column)
     → length bytes < 2 ^ 31 → All IsName columns
     → first + 4 * k ≡ place + from → place + from + 4 * length columns ≤ end
-    → FieldsAt bytes place end (references from (map field_table columns))
+    → FieldsAt bytes place end (references from (map field_table (plain_fields columns)))
     → each_of (column_at bytes) (map (λ i. first + 4 * i) (range_with_len k (length columns)))
     ≡ Ok columns
 columns-read bytes place end from first k [] small named here before laid = refl
@@ -361,7 +362,7 @@ columns-read bytes place end from first k (column ∷ columns) small named here 
     ap (column_at bytes) here
     ∙ column-read bytes end column small name.1 name.2 laid.1 (place + from) (omega arith)
     (is_utf8-from_IsUtf8 column.name name.0) laid.0 in
-    let rest = columns-read bytes place (end + length (field_table column end).bytes) (from + 4)
+    let rest = columns-read bytes place (end + length (field_table_of column None end).bytes) (from + 4)
     first (k + 1) columns small (All-tail IsName column columns named)
     (omega arith) (omega arith) laid.2 in
     rw (one, rest) refl
@@ -369,11 +370,11 @@ columns-read bytes place end from first k (column ∷ columns) small named here 
 -- the fields of a schema: its byte order and its columns
 abbrev pub schema_fields : List Column → List Field
 schema_fields columns =
-    number 8 w16 0 ∷ reference 4 (vector_of_tables (map field_table columns)) ∷ []
+    number 8 w16 0 ∷ reference 4 (vector_of_tables (map field_table (plain_fields columns))) ∷ []
 
 -- the fields stand where the schema's table was laid
 pub schema-there : (bytes : List ℕ) (end : ℕ) (columns : List Column)
-    → Has bytes end (schema_table columns end).bytes
+    → Has bytes end (schema_table (plain_fields columns) end).bytes
     → IsTableAt bytes end 10 (schema_fields columns)
 schema-there bytes end columns has =
     table-there bytes end 10 (schema_fields columns) (record { apart = refl; fit = refl }) has
@@ -381,16 +382,16 @@ schema-there bytes end columns has =
 -- The columns of a schema are read back.
 pub schema-read : (bytes : List ℕ) (end : ℕ) (columns : List Column) → length bytes < 2 ^ 31
     → 0 < length columns → All IsName columns
-    → Has bytes end (schema_table columns end).bytes
-    → columns_at bytes (schema_table columns end).place ≡ Ok columns
+    → Has bytes end (schema_table (plain_fields columns) end).bytes
+    → columns_at bytes (schema_table (plain_fields columns) end).place ≡ Ok columns
 schema-read bytes end columns small some named has =
     let fields : List Field = schema_fields columns in
     let there = schema-there bytes end columns has in
-    let place : ℕ = (schema_table columns end).place in
+    let place : ℕ = (schema_table (plain_fields columns) end).place in
     let behind : ℕ = place + 10 in
-    let tables : List Object = map field_table columns in
+    let tables : List Object = map field_table (plain_fields columns) in
     let vector : ℕ = length_place behind in
-    let count : length tables ≡ length columns = length-map columns field_table in
+    let count : length tables ≡ length columns = length-map (plain_fields columns) field_table ∙ length-map columns plain_field in
     let laid = tables-there bytes behind tables there.laid.1.1 in
     let endianness = scalar-found bytes end 10 fields there 0 8 w16 0 refl (lit< tt) there.laid.0 in
     let leads =

@@ -1,5 +1,5 @@
 -- How many bytes the metadata of a schema has at most.
-use Rattle.std.proofs.Common.{◌≡◌, ℕ, ◌+◌, ◌-◌, ◌*◌, ◌≤◌, true, List, [], ◌∷◌, ◌++◌, length, map, replicate, refl, subst, arith, length-append}
+use Rattle.std.proofs.Common.{◌≡◌, ℕ, ◌+◌, ◌-◌, ◌*◌, ◌≤◌, true, List, [], ◌∷◌, ◌++◌, length, map, replicate, refl, subst, arith, length-append, None, ◌∙◌}
 use Rattle.std.proofs.lemmas.List.{length-replicate, length-map}
 use Rattle.std.proofs.lemmas.List.Elements.{All-head, All-tail}
 use Rattle.std.specs.Int.{w32, byte_len, to_le_bytes}
@@ -7,8 +7,9 @@ use Rattle.std.specs.List.{All}
 use Rattle.cell_model.specs.Schemas.{IsName}
 use Rattle.cell_model.specs.Widths.{most_bytes}
 use Rattle.cell_model.specs.declared.column.Column.{Column}
+use Rattle.arrow_spec.specs.Fields.{plain_field, plain_fields}
 use Rattle.arrow_spec.specs.Flatbuffers.{Laid, Object, Field, number, reference, absent, aligned, length_place, gap, with_fields, vtable_of, table, vector, string, references, vector_of_tables}
-use Rattle.arrow_spec.specs.Metadata.{type_of, table_of_type, field_table, schema_table, schema, flatbuffer_of}
+use Rattle.arrow_spec.specs.Metadata.{type_of, table_of_type, field_table, field_table_of, schema_table, schema, flatbuffer_of}
 use Rattle.arrow_spec.specs.declared.types.ArrowType.{ArrowType}
 use Rattle.arrow_spec.specs.declared.types.ArrowType.TheVariants.{SignedInt, UnsignedInt, FixedSizeBinary, Date, Plain}
 use Rattle.stream_laws.proofs.Pieces.{length-number}
@@ -141,7 +142,7 @@ most_of_field = 65637
 
 -- The field of a column with a short enough name adds at most so many bytes.
 field-short : (column : Column) → length column.name ≤ most_bytes
-    → AddsAtMost (field_table column) most_of_field
+    → AddsAtMost (field_table_of column None) most_of_field
 field-short column short end =
     let name : AddsAtMost (string column.name) 65547 =
     λ at. (let all = string-short column.name at in omega arith) in
@@ -164,10 +165,10 @@ field-short column short end =
 
 -- The references to the fields of columns lead to at most so many bytes for each.
 fields-lead : (from : ℕ) (columns : List Column) → All IsName columns
-    → LeadTo (most_of_field * length columns) (references from (map field_table columns))
+    → LeadTo (most_of_field * length columns) (references from (map field_table (plain_fields columns)))
 fields-lead from [] named = tt
 fields-lead from (column ∷ columns) named =
-    let P : ℕ → Type 0 = λ n. LeadTo n (references (from + 4) (map field_table columns)) in
+    let P : ℕ → Type 0 = λ n. LeadTo n (references (from + 4) (map field_table (plain_fields columns))) in
     let left : most_of_field * length columns
     ≡ most_of_field * length (column ∷ columns) - most_of_field = omega arith in (
       most_of_field,
@@ -184,19 +185,19 @@ most_of_schema columns = 97 + 65641 * columns
 
 -- the metadata of columns with names has at most so many bytes
 pub schema-short : (columns : List Column) → All IsName columns
-    → length (flatbuffer_of (schema columns) 0) ≤ most_of_schema (length columns)
+    → length (flatbuffer_of (schema (plain_fields columns)) 0) ≤ most_of_schema (length columns)
 schema-short columns named =
-    let tables : List Object = map field_table columns in
-    let count : length tables ≡ length columns = length-map columns field_table in
+    let tables : List Object = map field_table (plain_fields columns) in
+    let count : length tables ≡ length columns = length-map (plain_fields columns) field_table ∙ length-map columns plain_field in
     let fields : ℕ = most_of_field * length columns in
     let vector : ℕ = 11 + 4 * length tables + fields in
     let vector_adds : AddsAtMost (vector_of_tables tables) vector =
     tables-short fields tables (fields-lead 4 columns named) in
-    let schema_adds : AddsAtMost (schema_table columns) (18 + 2 * 2 + 10 + vector) =
+    let schema_adds : AddsAtMost (schema_table (plain_fields columns)) (18 + 2 * 2 + 10 + vector) =
     table-short 10 vector (schema_fields columns) (record { apart = refl; fit = refl })
     (vector, (vector_adds, omega arith, tt)) in
     let one : ℕ = 18 + 2 * 2 + 10 + vector in
     let message =
-    table-short 20 one (message_fields (schema columns) 0) (record { apart = refl; fit = refl })
+    table-short 20 one (message_fields (schema (plain_fields columns)) 0) (record { apart = refl; fit = refl })
     (one, (schema_adds, omega arith, tt)) 8 in
     omega arith

@@ -4,8 +4,8 @@ use Rattle.std.proofs.lemmas.List.{length-map}
 use Rattle.std.proofs.lemmas.List.Folds.{flat_map-map}
 use Rattle.cell_model.specs.Kinds.{values_of}
 use Rattle.cell_model.specs.declared.cell.Cell.{Cell}
-use Rattle.dict_spec.specs.Batches.{dictionary_with}
-use Rattle.dict_spec.specs.Dictionaries.{dictionary_of, value_cell}
+use Rattle.arrow_spec.specs.DictBatches.{dictionary_with}
+use Rattle.arrow_spec.specs.Dictionaries.{dictionary_of, value_cell}
 use Rattle.dict_gather.specs.Places.{PlacedValue, placed_from}
 use Rattle.dict_gather.proofs.EncodeLemmas.{dictionary-few, dictionary-short}
 use Rattle.dict_gather.proofs.encode.by_dictionary.Goals as goal

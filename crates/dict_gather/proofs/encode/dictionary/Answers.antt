@@ -1,7 +1,7 @@
 use Rattle.std.proofs.Common.{◌∙◌, List, ℕ, length, map, ap, sym, Bor}
 use Rattle.std.proofs.lemmas.List.{length-map}
 use Rattle.arrow_spec.specs.Batches.{Array}
-use Rattle.dict_spec.specs.Batches.{Dictionary}
+use Rattle.arrow_spec.specs.DictBatches.{Dictionary}
 use Rattle.dict_gather.proofs.EncodeLemmas.{dictionary-made, three-few}
 use Rattle.dict_gather.proofs.encode.dictionary.Goals as goal
 

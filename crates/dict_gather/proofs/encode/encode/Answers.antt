@@ -1,7 +1,7 @@
 use Rattle.std.proofs.Common.{◌≡◌, ◌∙◌, sym, subst, Option}
 use Rattle.std.specs.Prelude.{IfOk}
 use Rattle.arrow_spec.specs.Batches.{Array}
-use Rattle.dict_spec.specs.Batches.{Dictionary}
+use Rattle.arrow_spec.specs.DictBatches.{Dictionary}
 use Rattle.dict_gather.proofs.EncodeLemmas.{array-lacks, array-there, dictionary-lacks, dictionary-there}
 use Rattle.dict_gather.proofs.encode.encode.Goals as goal
 

@@ -1,6 +1,6 @@
 use Rattle.std.proofs.Common.{◌≡◌, ◌∙◌, List, ℕ, [], length, get_or, ap, sym, arith}
 use Rattle.arrow_spec.specs.Batches.{Array}
-use Rattle.dict_spec.specs.Batches.{array_of}
+use Rattle.arrow_spec.specs.DictBatches.{array_of}
 use Rattle.dict_gather.proofs.EncodeLemmas.{encoded-buffers, item-is, no-short, short-told}
 use Rattle.dict_gather.proofs.encode.variable_column.Goals as goal
 

@@ -1,6 +1,6 @@
 use Rattle.std.proofs.Common.{◌≡◌, ◌∙◌, ℕ, map, ap}
 use Rattle.std.proofs.lemmas.Result.{IfOk-weaker}
-use Rattle.dict_spec.specs.Batches.{DictBatch, dict_batch_of}
+use Rattle.arrow_spec.specs.DictBatches.{DictBatch, dict_batch_of}
 use Rattle.dict_gather.proofs.GatherLemmas.{few-made, parted-is}
 use Rattle.dict_gather.proofs.gather.gather_dict.Goals as goal
 

@@ -1,6 +1,6 @@
 use Rattle.std.proofs.Common.{◌∙◌, ap, length, arith}
 use Rattle.std.proofs.lemmas.List.{take_all}
-use Rattle.dict_spec.specs.Batches.{of_columns}
+use Rattle.arrow_spec.specs.DictBatches.{of_columns}
 use Rattle.dict_gather.specs.Encoded.{encoded_column}
 use Rattle.dict_gather.proofs.GatherLemmas.{count-made, more-made}
 use Rattle.dict_gather.proofs.gather.in_turn.Goals as goal

@@ -1,7 +1,7 @@
 use Rattle.std.proofs.Common.{◌≡◌, List, take}
 use Rattle.cell_model.specs.declared.cell.Cell.{Cell}
 use Rattle.cell_model.specs.declared.column.Column.{Column}
-use Rattle.dict_spec.specs.Batches.{of_columns}
+use Rattle.arrow_spec.specs.DictBatches.{of_columns}
 use Rattle.dict_gather.specs.Encoded.{batch_with, encoded_column}
 use Rattle.dict_gather.proofs.gather.in_turn.Given as goal
 

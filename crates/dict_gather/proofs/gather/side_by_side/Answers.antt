@@ -3,7 +3,7 @@ use Rattle.std.specs.Prelude.{Ok}
 use Rattle.std.proofs.lemmas.Result.{IfOk-weaker}
 use Rattle.dict_gather.specs.Encoded.{encoded_column}
 use Rattle.dict_gather.specs.declared.encode.Encoded.{Encoded}
-use Rattle.dict_spec.specs.Batches.{of_columns}
+use Rattle.arrow_spec.specs.DictBatches.{of_columns}
 use Rattle.dict_gather.proofs.GatherLemmas.{count-made, each-made}
 use Rattle.dict_gather.proofs.gather.side_by_side.Goals as goal
 

@@ -8,6 +8,6 @@ pub returns-clause-answer : goal.returns-clause-answer
 returns-clause-answer g c =
     let makes : ℕ → List Array → Type 0 = λ rows arrays.
     MakesPiece g.W.Sink.written g.W.Sink.faults c.args.self.now c.arrays-2.new.self (message_of_batch (batch_of_arrays rows arrays)) c.arrays-2.result in
-    let lent : c.as_slice.result.now ≡ c.args.batch.now.arrays = c.as_slice.ensures.value ∙ c.in_ok-arrays.ensures ∙ c.arrays.ensures.arrays in
+    let lent : c.in_ok-arrays.arrays.items ≡ c.args.batch.now.arrays = c.in_ok-arrays.ensures ∙ c.arrays.ensures.arrays in
     subst (λ (arrays : List Array). makes c.args.batch.now.rows arrays) lent
-    (subst (λ (rows : ℕ). makes rows c.as_slice.result.now) c.rows.ensures c.arrays-2.ensures.answer)
+    (subst (λ (rows : ℕ). makes rows c.in_ok-arrays.arrays.items) c.rows.ensures c.arrays-2.ensures.answer)

@@ -18,17 +18,14 @@ returns-in-Some-clause-answer g c =
 pub arrays-requires-clause-few : goal.arrays-requires-clause-few
 arrays-requires-clause-few g c =
     let image = c.args.image.now in
-    arrays-few image.columns (rows_of image) c.as_slice.result.now c.requires.few
-    (c.as_slice.ensures.value ∙ c.in_ok-arrays.ensures)
+    arrays-few image.columns (rows_of image) c.in_ok-arrays.arrays.items c.requires.few c.in_ok-arrays.ensures
 
 pub returns-clause-answer : goal.returns-clause-answer
 returns-clause-answer g c =
     let image = c.args.image.now in
     let makes : ℕ → List Array → Type 0 = λ rows arrays.
     MakesPiece g.W.Sink.written g.W.Sink.faults c.args.self.now c.arrays.new.self (message_of_batch (batch_of_arrays rows arrays)) c.arrays.result in
-    let lent : c.as_slice.result.now ≡ arrays_of image.columns (rows_of image) =
-    c.as_slice.ensures.value ∙ c.in_ok-arrays.ensures in
     let count : c.rows.result ≡ length (rows_of image) =
     c.rows.ensures ∙ sym (held_count image.rows image.slots c.requires.whole.held) in
-    subst (λ (arrays : List Array). makes (length (rows_of image)) arrays) lent
-    (subst (λ (rows : ℕ). makes rows c.as_slice.result.now) count c.arrays.ensures.answer)
+    subst (λ (arrays : List Array). makes (length (rows_of image)) arrays) c.in_ok-arrays.ensures
+    (subst (λ (rows : ℕ). makes rows c.in_ok-arrays.arrays.items) count c.arrays.ensures.answer)

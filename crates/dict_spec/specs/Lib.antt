@@ -1,5 +1,0 @@
-pub mod Dictionaries
-pub mod Batches
-pub mod Metadata
-pub mod Streams
-pub mod Examples

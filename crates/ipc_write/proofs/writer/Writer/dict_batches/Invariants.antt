@@ -1,0 +1,15 @@
+use Rattle.std.proofs.Common.{◌≡◌, ◌≤◌, take}
+use Rattle.std.specs.Prelude.{flat_map}
+use Rattle.arrow_spec.specs.Streams.{messages_of_dicts}
+use Rattle.byte_ports.specs.Calls.{TellsAlike}
+use Rattle.ipc_write.specs.Calls.{WroteAll}
+use Rattle.ipc_write.proofs.writer.Writer.dict_batches.Given as goal
+
+abbrev pub invariant-loop-dicts : goal.invariant-loop-dicts
+invariant-loop-dicts g l = record {
+  wrote : WroteAll g.W.Sink.written g.W.Sink.faults l.initial.self l.self (flat_map messages_of_dicts (take l.dicts-index l.batches));
+  told : TellsAlike (g.W.Sink.written l.initial.self.sink) (g.W.Sink.written l.self.sink);
+  started : g.W.Sink.started l.self.sink ≡ g.W.Sink.started l.initial.self.sink;
+  loan : g.W.Sink.loan l.self.sink ≡ g.W.Sink.loan l.initial.self.sink;
+  counted : g.W.Sink.faults l.initial.self.sink ≤ g.W.Sink.faults l.self.sink;
+}
