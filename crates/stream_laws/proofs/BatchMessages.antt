@@ -35,14 +35,14 @@ few-data (Blobs width) = omega arith
 few-data (Strips bytes) = omega arith
 
 -- There is one place for each buffer.
-length-buffer_places : (from : ℕ) (buffers : List (List ℕ))
+pub length-buffer_places : (from : ℕ) (buffers : List (List ℕ))
     → length (buffer_places from buffers) ≡ length buffers
 length-buffer_places from [] = refl
 length-buffer_places from (buffer ∷ buffers) =
     ap suc (length-buffer_places (from + length (padded buffer)) buffers)
 
 -- a column has three buffers at most
-few-buffers : (fields : List Field) → buffer_count fields ≤ 3 * length fields
+pub few-buffers : (fields : List Field) → buffer_count fields ≤ 3 * length fields
 few-buffers [] = omega arith
 few-buffers (field ∷ fields) =
     omega (arith, few-data (values_of (stored_kind field)), few-buffers fields)

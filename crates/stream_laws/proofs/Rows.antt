@@ -93,7 +93,7 @@ row-of columns row fits =
 -- ---- columns
 
 -- the cells of the columns, counted from a number on
-abbrev cells_from : ℕ → List Column → List (List Cell) → List (List Cell)
+abbrev pub cells_from : ℕ → List Column → List (List Cell) → List (List Cell)
 cells_from k [] rows = []
 cells_from k (column ∷ columns) rows = column_cells k rows ∷ cells_from (k + 1) columns rows
 
@@ -191,7 +191,7 @@ row-back k i (column ∷ columns) rows inside long =
     rw (first, rest) (sym parts)
 
 -- The rows are read back slot by slot from the cells of their columns.
-rows-back : (columns : List Column) (rows : List (List Cell))
+pub rows-back : (columns : List Column) (rows : List (List Cell))
     → ((i : ℕ) → i < length rows → length (get_or rows i []) ≡ length columns)
     → map (row_at (cells_from 0 columns rows)) (range_with_len 0 (length rows)) ≡ rows
 rows-back columns rows long =

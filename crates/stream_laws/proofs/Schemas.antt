@@ -40,7 +40,7 @@ IsTold (Date unit) = unit < 256 ^ byte_len w16
 IsTold (Plain id) = (id < 256 ^ byte_len w8) × ((id == 2) ≡ false) × ((id == 8) ≡ false) × ((id == 15) ≡ false)
 
 -- The type of each kind is such a one.
-kind-told : (kind : Kind) → has_width (values_of kind) ≡ true → IsTold (type_of kind)
+pub kind-told : (kind : Kind) → has_width (values_of kind) ≡ true → IsTold (type_of kind)
 kind-told kinds.I8 wide = lit< tt
 kind-told kinds.I16 wide = lit< tt
 kind-told kinds.I32 wide = lit< tt
@@ -91,7 +91,7 @@ date-there bytes end unit has =
     table-there bytes end 6 (date_fields unit) (record { apart = refl; fit = refl }) has
 
 -- An Int table with a sign is read back.
-signed-read : (bytes : List ℕ) (end bits : ℕ) → bits < 256 ^ byte_len w32
+pub signed-read : (bytes : List ℕ) (end bits : ℕ) → bits < 256 ^ byte_len w32
     → Has bytes end (int_table bits 1 end).bytes
     → int_type bytes (Some (int_table bits 1 end).place) ≡ Ok (SignedInt bits)
 signed-read bytes end bits small has =
@@ -138,7 +138,7 @@ date-read bytes end unit small has =
     ∙ ap tells (number-read bytes (place + 4) w16 unit small there.laid.0)
 
 -- The table of a type, to which the reference at a place leads, says what the type is.
-type-read : (bytes : List ℕ) (end at : ℕ) (type' : ArrowType) → IsTold type'
+pub type-read : (bytes : List ℕ) (end at : ℕ) (type' : ArrowType) → IsTold type'
     → Has bytes end (table_of_type type' end).bytes
     → target_of bytes (Some at) ≡ Ok (Some (table_of_type type' end).place)
     → type_at bytes (number_of_type type') (Some at) ≡ Ok type'
@@ -161,12 +161,12 @@ type-read bytes end at (Date unit) told has leads =
 type-read bytes end at (Plain id) told has leads = rw (told.1, told.2, told.3) refl
 
 -- where it stands
-record Stands (bytes : List ℕ) (end place : ℕ) : Type 0 where
-  behind : end ≤ place
-  inside : place + 4 ≤ length bytes
+pub record Stands (bytes : List ℕ) (end place : ℕ) : Type 0 where
+  pub behind : end ≤ place
+  pub inside : place + 4 ≤ length bytes
 
 -- The table of a type stands behind the end where it is laid, within the bytes.
-type-stands : (bytes : List ℕ) (end : ℕ) (type' : ArrowType)
+pub type-stands : (bytes : List ℕ) (end : ℕ) (type' : ArrowType)
     → Has bytes end (table_of_type type' end).bytes
     → Stands bytes end (table_of_type type' end).place
 type-stands bytes end (SignedInt bits) has =
@@ -186,7 +186,7 @@ type-stands bytes end (Plain id) has =
     record { behind = table-behind end 4 []; inside = omega (arith, there.inside) }
 
 -- The number of a type fits one byte.
-type-number-small : (type' : ArrowType) → IsTold type' → number_of_type type' < 256 ^ byte_len w8
+pub type-number-small : (type' : ArrowType) → IsTold type' → number_of_type type' < 256 ^ byte_len w8
 type-number-small (SignedInt bits) told = lit< tt
 type-number-small (UnsignedInt bits) told = lit< tt
 type-number-small (FixedSizeBinary bytes) told = lit< tt
@@ -194,7 +194,7 @@ type-number-small (Date unit) told = lit< tt
 type-number-small (Plain id) told = told.0
 
 -- Each kind is found by its type.
-kind-read : (kind : Kind) → has_width (values_of kind) ≡ true
+pub kind-read : (kind : Kind) → has_width (values_of kind) ≡ true
     → kind_of_type (type_of kind) ≡ Some kind
 kind-read kinds.I8 wide = refl
 kind-read kinds.I16 wide = refl
@@ -227,12 +227,12 @@ column_fields column =
     ∷ []
 
 -- A truth value as a number fits one byte.
-bool_small : (truth : Bool) → from_bool truth < 256 ^ byte_len w8
+pub bool_small : (truth : Bool) → from_bool truth < 256 ^ byte_len w8
 bool_small true = lit< tt
 bool_small false = lit< tt
 
 -- A truth value is read back from its number.
-bool_back : (truth : Bool) → not (from_bool truth == 0) ≡ truth
+pub bool_back : (truth : Bool) → not (from_bool truth == 0) ≡ truth
 bool_back true = refl
 bool_back false = refl
 

@@ -42,7 +42,7 @@ batches-few columns (rows ∷ batches) =
     )
 
 -- the end word ends the batches, whatever follows it
-end-read : (known : Known) (after : List ℕ)
+pub end-read : (known : Known) (after : List ℕ)
     → next_message known (end_word ++ after) ≡ Ok None
 end-read known after = let is = end-framed after in rw is refl
 

@@ -10,8 +10,9 @@ use Rattle.cell_model.specs.declared.column.Column.{Column}
 use Rattle.cell_model.specs.declared.kind.Kind.TheVariants as kind
 use Rattle.cell_model.specs.declared.values.Values.{Values}
 use Rattle.arrow_spec.specs.Examples.{key_and, nine_rows}
-use Rattle.arrow_spec.specs.Streams.{schema_message, batch_message, stream_of}
-use Rattle.arrow_spec.specs.Fields.{plain_fields}
+use Rattle.arrow_spec.specs.Streams.{batch_message, dict_schema_message, dict_stream_of}
+use Rattle.arrow_spec.specs.Streams.{schema_message, stream_of}
+use Rattle.arrow_spec.specs.Fields.{encoded_fields, plain_fields}
 use Rattle.arrow_spec.specs.declared.fields.Field.{Field}
 use Rattle.stream_spec.specs.Columns.{Dictionary, data_count, data_needs, has_offsets, lies_in}
 use Rattle.stream_spec.specs.Columns.{rows_of}
@@ -76,6 +77,32 @@ StreamEnds =
     → All (IsBatch columns) batches
     → Reads (stream_of columns batches ++ after) columns batches
 
+-- ---- by dictionaries
+
+-- The message of a schema whose utf8 and binary columns are encoded, whatever follows it, reads as
+-- its fields, and is as long as it says.
+abbrev pub DictSchemaIsRead : Type 0
+DictSchemaIsRead =
+    (columns : List Column) (rest : List ℕ) → AreTold columns
+    → first_schema (dict_schema_message columns ++ rest)
+    ≡ Ok (record { fields = encoded_fields columns; size = length (dict_schema_message columns) })
+
+-- The stream by dictionaries of batches reads as its columns and exactly these batches.
+abbrev pub DictStreamIsRead : Type 0
+DictStreamIsRead =
+    (columns : List Column) (batches : List (List (List Cell))) → AreTold columns
+    → All (IsBatch columns) batches
+    → Reads (dict_stream_of columns batches) columns batches
+
+-- And what follows its end word is not looked at.
+abbrev pub DictStreamEnds : Type 0
+DictStreamEnds =
+    (columns : List Column) (batches : List (List (List Cell))) (after : List ℕ) → AreTold columns
+    → All (IsBatch columns) batches
+    → Reads (dict_stream_of columns batches ++ after) columns batches
+
+-- ---- of all streams
+
 -- The columns of a table are some that a stream can tell.
 abbrev pub TablesAreTold : Type 0
 TablesAreTold = (columns : List Column) → IsSchema columns → AreTold columns
@@ -92,11 +119,11 @@ OneReading =
     → Reads bytes columns batches → Reads bytes others more → (columns ≡ others) × (batches ≡ more)
 
 -- However many messages are looked for, if they are more than the bytes, the bytes read as the
--- same: nothing is read as a whole stream because the search for its batches was at its end.
+-- same: nothing is read as a whole stream because the search for its messages was at its end.
 abbrev pub SearchIsLongEnough : Type 0
 SearchIsLongEnough = (bytes : List ℕ) (schema : SchemaRead) (more : ℕ)
     → first_schema bytes ≡ Ok schema → length bytes < more
-    → reading_of bytes ≡ batches_from more schema.columns schema.size (drop schema.size bytes)
+    → reading_of bytes ≡ messages_from more (known_by schema) schema.size (drop schema.size bytes)
 
 -- A batch that is read has a cell of each column in each row: none was left out for want of a node
 -- or of a buffer. And each buffer that it names lies in its body: none was left unseen.
