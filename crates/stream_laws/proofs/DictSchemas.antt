@@ -78,7 +78,6 @@ encoded-lead from k (column ∷ columns) named =
 encoded-schema-short : (columns : List Column) → All IsName columns
     → length (flatbuffer_of (schema (encoded_from 0 columns)) 0) ≤ 97 + 65717 * length columns
 encoded-schema-short columns named =
-    let fields = encoded_from 0 columns in
     let tables : List Object = map field_table (encoded_from 0 columns) in
     let count : length tables ≡ length columns =
     length-map (encoded_from 0 columns) field_table ∙ length-encoded 0 columns in

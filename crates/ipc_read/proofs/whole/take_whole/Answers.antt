@@ -1,15 +1,18 @@
 use Rattle.std.proofs.Common.{◌≡◌, ◌≤◌, ◌+◌, ◌-◌, ◌∙◌, ap, sym, subst, length, take, drop, append-nil, List, ℕ}
-use Rattle.std.proofs.Common.{[], ◌∷◌, ◌++◌, Option, Result, Some, None, Ok, Err}
+use Rattle.std.proofs.Common.{[], ◌∷◌, ◌++◌, Option, Result, Some, None, Ok, Err, inr}
 use Rattle.std.proofs.lemmas.List.{take_rest}
 use Rattle.cell_model.specs.declared.cell.Cell.{Cell}
 use Rattle.ipc_read.specs.Looks.{TakesWhole, newest_of}
 use Rattle.ipc_read.specs.Steps.{LearnedMore, Steps, TookBatch}
 use Rattle.ipc_read.specs.declared.steps.Step.{Step}
 use Rattle.stream_spec.specs.Streams.{Known, fault_at, next_message}
+use Rattle.stream_spec.specs.declared.fault.Cause.{Cause}
+use Rattle.stream_spec.specs.declared.fault.Cause.TheVariants as cause
 use Rattle.stream_pieces.specs.declared.stand.Stand.TheVariants as stand
 use Rattle.stream_pieces.proofs.GoesOn.{message-goes-on, message-ends, message-fails}
 use Rattle.ipc_read.proofs.WholeLemmas.{Left, left_all, left_ends, left_fails, left_first, left_next, left_waits}
 use Rattle.ipc_read.proofs.WholeLemmas.{taken-by}
+use Rattle.ipc_read.proofs.LookLemmas.{is-short}
 use Rattle.ipc_read.proofs.whole.take_whole.Goals as goal
 
 -- what a step did behind the bytes that are done with
@@ -73,7 +76,20 @@ returns-in-End g c =
     (left_ends _ c.args.known.now c.args.place bytes count message-ends c.loop-count.newer c.loop-count.invariant c.loop-count-test.true did.0))
 
 pub returns-in-Fault-then-is_short : goal.returns-in-Fault-then-is_short
-returns-in-Fault-then-is_short g c = ?
+returns-in-Fault-then-is_short g c =
+    let known : Known = newest_of c.args.known.now c.loop-count.newer in
+    let bytes : List ℕ = c.args.bytes.now in
+    let count : ℕ = c.loop-count.count in
+    let going = c.going in
+    let did = step-there g.T.TakeBatches.took known c.latest.result.now bytes count c.loop-count.taker c.step.new.taker _ _
+    c.latest.ensures c.in-Fault.is c.in_ok-step.ensures in
+    let short : c.in-Fault.cause ≡ cause.Short = is-short c.in-Fault.cause (sym c.is_short.ensures ∙ c.if-is_short.true) in
+    subst (λ at. TakesWhole (λ rows. g.T.TakeBatches.took c.args.taker.now rows at) c.args.known.now c.args.place bytes going.result.known going.result.count going.result.stand)
+    (sym did.1)
+    (taken-by (λ rows. g.T.TakeBatches.took c.args.taker.now rows c.loop-count.taker) c.args.known.now c.args.place bytes
+    c.loop-count.newer _ count _ stand.Going _ going.ensures.known going.ensures.count going.ensures.stand
+    (left_waits _ c.args.known.now c.args.place bytes count c.loop-count.newer c.loop-count.invariant
+    (inr (did.0 ∙ ap (λ (cause : Cause). Err cause) short))))
 
 pub returns-in-Fault : goal.returns-in-Fault
 returns-in-Fault g c =
