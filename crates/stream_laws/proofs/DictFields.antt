@@ -230,7 +230,7 @@ either-field-read false bytes end id column before here small fits name has ahea
 -- ---- fields that agree
 
 -- the test holds of one more
-all-and-one : {X : Type 0} (test : X → Bool) (xs : List X) (x : X) → list_all test xs ≡ true
+pub all-and-one : {X : Type 0} (test : X → Bool) (xs : List X) (x : X) → list_all test xs ≡ true
     → test x ≡ true → list_all test (xs ++ x ∷ []) ≡ true
 all-and-one test [] x all one = and_from (test x) true one refl
 all-and-one test (first ∷ rest) x all one =
