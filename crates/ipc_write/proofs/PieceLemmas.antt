@@ -5,7 +5,7 @@ use Rattle.std.proofs.lemmas.List.{take-append-le, take-replicate, take_all}
 use Rattle.std.proofs.lemmas.Grind.{flat_map-append}
 use Rattle.std.proofs.Math.Seq.{take-append-add}
 use Rattle.std.specs.Io.KnownBytes.{Appends}
-use Rattle.std.proofs.KnownBytes.{Appends-trans}
+use Rattle.std.proofs.KnownBytes.{Appends-nil, Appends-trans}
 use Rattle.byte_ports.specs.Calls.{Rose, AppendsFront}
 use Rattle.arrow_spec.specs.Batches.{Array}
 use Rattle.arrow_spec.specs.Bytes.{padded}
@@ -113,7 +113,7 @@ pub framed-is : (given metadata : List ℕ) → given ≡ metadata
     → continuation ++ to_le_bytes w32 (length (padded given)) ++ padded given ≡ message metadata []
 framed-is given metadata is =
     ap (λ (m : List ℕ). continuation ++ to_le_bytes w32 (length (padded m)) ++ padded m) is
-    ∙ ap (λ (bytes : List ℕ). continuation ++ to_le_bytes w32 (length (padded metadata)) ++ bytes) (sym (append-nil (padded metadata)))
+    ∙ sym (append-nil (continuation ++ to_le_bytes w32 (length (padded metadata)) ++ padded metadata))
 
 -- ---- pieces that are made one after another
 
@@ -127,12 +127,12 @@ front-whole before now first rest some grown =
     (length first, omega arith, subst (λ (bytes : List ℕ). Appends before now bytes) (sym is) grown)
 
 -- a piece that stands between others was not written whole, of which those before it were
-pub run-broken : {W T : Type 0} (written : W → Option (List ℕ)) (faults : W → ℕ) (old middle new : WriterView W)
+pub run-broken : {W : Type 0} (written : W → Option (List ℕ)) (faults : W → ℕ) (old middle new : WriterView W)
     (first piece rest whole : List ℕ) (fault : PieceFault)
     → WroteAll written faults old middle first → faults old.sink ≤ faults middle.sink
-    → MakesPiece {T = T} written faults middle new piece (Err fault)
+    → MakesPiece {T = Unit {0}} written faults middle new piece (Err fault)
     → 0 < length rest → whole ≡ first ++ (piece ++ rest)
-    → WritesRun {T = T} written faults old new whole (Err fault)
+    → WritesRun {T = Unit {0}} written faults old new whole (Err fault)
 run-broken written faults old middle new first piece rest whole (Sink fault) wrote counted failed some is =
     failed-within written faults old middle new first piece rest whole fault.earlier wrote counted failed is
 run-broken {W = W} written faults old middle new first piece rest whole (Memory refused) wrote counted (before, same) some is =
@@ -148,22 +148,17 @@ run-broken {W = W} written faults old middle new first piece rest whole (Memory 
       kept = ap (λ (w : WriterView W). faults w.sink) same ∙ wrote.kept;
     }
 
--- known bytes grow by none
-appends-nothing : (known : Option (List ℕ)) → Appends known known []
-appends-nothing None = tt
-appends-nothing (Some bytes) = sym (append-nil bytes)
-
 -- the first piece was not written whole
-pub run-not-begun : {W T : Type 0} (written : W → Option (List ℕ)) (faults : W → ℕ) (old new : WriterView W)
+pub run-not-begun : {W : Type 0} (written : W → Option (List ℕ)) (faults : W → ℕ) (old new : WriterView W)
     (piece rest : List ℕ) (fault : PieceFault)
-    → MakesPiece {T = T} written faults old new piece (Err fault) → 0 < length rest
-    → WritesRun {T = T} written faults old new (piece ++ rest) (Err fault)
+    → MakesPiece {T = Unit {0}} written faults old new piece (Err fault) → 0 < length rest
+    → WritesRun {T = Unit {0}} written faults old new (piece ++ rest) (Err fault)
 run-not-begun written faults old new piece rest (Sink fault) failed some =
     failed-before written faults old new piece rest fault.earlier failed
 run-not-begun {W = W} written faults old new piece rest (Memory refused) (before, same) some =
     let length_is : length (piece ++ rest) ≡ length piece + length rest = length-append piece rest in
     let grown : Appends (written old.sink) (written new.sink) [] =
-    subst (λ (w : WriterView W). Appends (written old.sink) (written w.sink) []) (sym same) (appends-nothing (written old.sink)) in
+    subst (λ (w : WriterView W). Appends (written old.sink) (written w.sink) []) (sym same) (Appends-nil (written old.sink)) in
     record {
       before = before;
       after = ap (λ (w : WriterView W). w.failed) same ∙ before;

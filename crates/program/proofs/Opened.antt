@@ -45,7 +45,7 @@ module _ (path : Option (List ℕ)) (name : List ℕ) (disk : OfDisk) (script : 
   }
 
   full : (Prints : Option (List ℕ) → Option (List ℕ) → List ℕ → Type 0) (whole ended : Status)
-      → FindsNoSlots Prints Same (begun_with first script) whole ended before now → IsLogFull Prints (Some name) disk script before now
+      → FindsNoSlots Prints Same Logs (begun_with first script) whole ended before now → IsLogFull Prints (Some name) disk script before now
   full Prints whole ended ends = record {
     kept = refl;
     first = first;
@@ -53,6 +53,7 @@ module _ (path : Option (List ℕ)) (name : List ℕ) (disk : OfDisk) (script : 
     table = ends.table;
     full = ends.full;
     only_read = reads ends.same ends.table ends.full;
+    logs = keeps [] 0 ends.logs;
     printed = ends.printed;
     outlet = ends.outlet;
   }
@@ -122,22 +123,24 @@ module _ (path : Option (List ℕ)) (Same : Type 0) (Logs : Script → OfLogged)
   })
 
   -- a log that is too large
-  pub too_large_ends : (table : ℕ) → IsFirstFull (shape_of script) table → Same → LeavesOutlet before now → ended ≢ status.Memory
+  pub too_large_ends : (table : ℕ) → IsFirstFull (shape_of script) table → Same → Logs script [] 0 → LeavesOutlet before now → ended ≢ status.Memory
       → LineEnds status.LogFull log_too_large ended before.printed now.printed → OpenedEnds path Same (Logs script) script ended before now
-  too_large_ends table full same outlet spared (inl (is, printed)) = inr (inr (inl (record {
+  too_large_ends table full same logs outlet spared (inl (is, printed)) = inr (inr (inl (record {
     told = is;
     table = table;
     full = full;
     same = same;
+    logs = logs;
     printed = printed;
     outlet = outlet;
   })))
-  too_large_ends table full same outlet spared (inr (inl (is, printed))) = inr (inr (inr (record {
+  too_large_ends table full same logs outlet spared (inr (inl (is, printed))) = inr (inr (inr (record {
     told = is;
     table = table;
     full = full;
     same = same;
+    logs = logs;
     printed = printed;
     outlet = outlet;
   })))
-  too_large_ends table full same outlet spared (inr (inr (is, printed))) = absurd (spared is)
+  too_large_ends table full same logs outlet spared (inr (inr (is, printed))) = absurd (spared is)

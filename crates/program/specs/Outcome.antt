@@ -316,7 +316,7 @@ pub record IsUnbuilt
   pub logs : LogKeeps log disk (begun_with first script) [] 0
 
 -- The log's commits leave a table more rows than it takes, and the line that tells so is printed.
--- Nothing ran, and the file is as it was.
+-- Nothing ran, and the file is as it was; a crash leaves just its commits.
 pub record IsLogFull
     (Prints : Option (List ℕ) → Option (List ℕ) → List ℕ → Type 0) (log : Option (List ℕ))
     (disk : OfDisk) (script : Script) (before now : Outside)
@@ -327,6 +327,7 @@ pub record IsLogFull
   pub table : ℕ
   pub full : IsFirstFull (shape_of (begun_with first script)) table
   pub only_read : disk.only_read
+  pub logs : LogKeeps log disk (begun_with first script) [] 0
   pub printed : Prints before.printed now.printed log_too_large
   pub outlet : LeavesOutlet before now
 

@@ -28,12 +28,13 @@ pub record FindsNoRoom (Logs : OfLogged) (ended : Status) (before now : Outside)
 -- that tells so is printed.
 pub record FindsNoSlots
     (Prints : Option (List ℕ) → Option (List ℕ) → List ℕ → Type 0) (Same : Type 0)
-    (script : Script) (whole ended : Status) (before now : Outside)
+    (Logs : OfLogged) (script : Script) (whole ended : Status) (before now : Outside)
     : Type 0 where
   pub told : ended ≡ whole
   pub table : ℕ
   pub full : IsFirstFull (shape_of script) table
   pub same : Same
+  pub logs : Logs [] 0
   pub printed : Prints before.printed now.printed log_too_large
   pub outlet : LeavesOutlet before now
 
@@ -44,8 +45,8 @@ abbrev pub OpenedEnds : Option (List ℕ) → Type 0 → OfLogged → Script →
 OpenedEnds path Same Logs script ended before now =
     BuiltEnds path true Logs script ended before now
     ⊎ FindsNoRoom Logs ended before now
-    ⊎ FindsNoSlots Appends Same script status.LogFull ended before now
-    ⊎ FindsNoSlots AppendsFront Same script status.OutFault ended before now
+    ⊎ FindsNoSlots Appends Same Logs script status.LogFull ended before now
+    ⊎ FindsNoSlots AppendsFront Same Logs script status.OutFault ended before now
 
 -- nothing is told of a log where none is kept
 abbrev pub NoLog : OfLogged

@@ -15,6 +15,8 @@ returns-in-Err-Full-clause-ends g c = λ left_old left_new.
     (outside left_old (g.O.Sink.written c.args.out.now) (g.X.Sink.written c.args.export.now) (g.X.Sink.started c.args.export.now))
     (outside left_new (g.O.Sink.written c.tell_too_large.new.out) (g.X.Sink.written c.args.export.now) (g.X.Sink.started c.args.export.now))
     c.in-Err-Full.field-0-0 (c.in-Err-Full.ensures.full c.in-Err-Full.field-0-0 c.in-Err-Full.field-0-is) refl
+    (stands_through g.D.Disk.told g.D.Disk.may_leave g.D.Disk.moment g.D.Disk.left_since g.met.D.Disk.only_now c.args.disk.now
+    (Some c.args.opened.log) (begun_with c.args.opened.commits c.args.script))
     (record { exported = refl; started = refl }) c.tell_too_large.ensures.spared c.tell_too_large.ensures.ends
 
 pub returns-in-Err-Memory-clause-ends : goal.returns-in-Err-Memory-clause-ends
