@@ -171,45 +171,43 @@ abbrev Small : Result Head MetaFault → Type 0
 Small (Ok head) = head.body < 2 ^ 63
 Small (Err fault) = Unit {0}
 
-abbrev head_with : MessageTable → Bool → Bool → Option HeadKind → Option ℕ → Bool
+abbrev head_with : MessageTable → Bool → Option HeadKind → Option ℕ → Bool
     → Result Head MetaFault
-head_with message version dictionary kind header body = do
+head_with message version kind header body = do
   v ← rule meta.Version version
-  d ← rule meta.Dictionary dictionary
   k ← or_fault meta.Kind kind
   h ← or_fault meta.Shape header
   b ← rule meta.Shape body
   Ok (record { kind = k; header = h; body = message.body })
 
-head-small : (message : MessageTable) (version dictionary : Bool) (kind : Option HeadKind)
+head-small : (message : MessageTable) (version : Bool) (kind : Option HeadKind)
     (header : Option ℕ) (body : Bool) → (body ≡ true → message.body < 2 ^ 63)
-    → Small (head_with message version dictionary kind header body)
-head-small message false dictionary kind header body is = tt
-head-small message true false kind header body is = tt
-head-small message true true None header body is = tt
-head-small message true true (Some k) None body is = tt
-head-small message true true (Some k) (Some h) false is = tt
-head-small message true true (Some k) (Some h) true is = is refl
+    → Small (head_with message version kind header body)
+head-small message false kind header body is = tt
+head-small message true None header body is = tt
+head-small message true (Some k) None body is = tt
+head-small message true (Some k) (Some h) false is = tt
+head-small message true (Some k) (Some h) true is = is refl
 
 abbrev head_from : Result MessageTable FlatFault → Result Head MetaFault
 head_from read = fault_as meta.Flat read >>= λ message.
     head_with message (message.version == 3 || message.version == 4)
-    (not (message.header_type == 2)) (kind_of_header message.header_type) message.header
+    (kind_of_header message.header_type) message.header
     (not (is_negative message.body))
 
 from-small : (read : Result MessageTable FlatFault) → Small (head_from read)
 from-small (Err fault) = tt
 from-small (Ok message) =
     head-small message (message.version == 3 || message.version == 4)
-    (not (message.header_type == 2)) (kind_of_header message.header_type) message.header
+    (kind_of_header message.header_type) message.header
     (not (is_negative message.body))
     (λ is. ltb-true message.body (2 ^ 63)
     (not-false (nat_lt message.body (2 ^ 63)) (not-true (is_negative message.body) is)))
 
-abbrev head_by : HeadKind → List ℕ → Result Head MetaFault → Result Head Cause
+abbrev head_by : Bool → List ℕ → Result Head MetaFault → Result Head Cause
 head_by first rest read = do
   head ← fault_as cause_of read
-  kind ← rule cause.Shape (is_of_kind due head.kind)
+  due ← rule cause.Shape (is_due first head.kind)
   body ← rule cause.Short (nat_le head.body (length rest))
   Ok head
 
