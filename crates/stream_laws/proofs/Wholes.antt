@@ -80,7 +80,7 @@ record Batch (nodes buffers : Bool) (columns : Result (List (List Cell)) Cause) 
 
 -- A batch that is read passed its rules, and its columns are read.
 batch_parts : (a b c : Bool) (columns : Result (List (List Cell)) Cause) (count : ℕ) (rows : List (List Cell))
-    → (rule cause.Shape a >>= λ x. rule cause.Shape b >>= λ y. rule cause.Shape c >>= λ z. columns >>= λ cells. Ok (map (row_at cells) (range_with_len 0 count))) ≡ Ok rows
+    → ((rule cause.Shape a >>= λ x. rule cause.Shape b >>= λ y. rule cause.Shape c >>= λ z. columns) >>= λ cells. Ok (map (row_at cells) (range_with_len 0 count))) ≡ Ok rows
     → Batch a b columns count rows
 batch_parts true true true (Ok cells) count rows is = record { nodes_are = refl; buffers_are = refl; cells = cells; columns_are = refl; rows_are = sym (same_ok (Ok (map (row_at cells) (range_with_len 0 count))) (map (row_at cells) (range_with_len 0 count)) rows refl is) }
 batch_parts true true true (Err fault) count rows is = absurd (let never : ⊥ = cc in never)
