@@ -1,4 +1,4 @@
-use Rattle.std.proofs.Common.{◌≡◌, ◌++◌, List, ℕ, ap, sym, arith, append_assoc, length-append, subst, Err}
+use Rattle.std.proofs.Common.{◌++◌, List, ℕ, ap, sym, arith, append_assoc, length-append, subst, Err}
 use Rattle.std.specs.Prelude.{flat_map}
 use Rattle.arrow_spec.specs.Streams.{dict_schema_message, end_word, messages_of_dicts, stream_of_dicts}
 use Rattle.ipc_write.specs.Calls.{WritesRun}
