@@ -35,9 +35,9 @@ loop-batches-preserved-in-Took c =
     let known = c.loop-batches.known in
     let place = c.loop-batches.place in
     let batches = c.loop-batches.batches.items in
-    let rows = c.step.new.taker in
+    let rows = c.take_next.new.taker in
     let did : TookBatch Took known (drop place bytes) c.new-rows.result rows c.in-Took.size =
-    step-there known bytes place c.new-rows.result rows _ _ c.in-Took.is c.in_ok-step.ensures in
+    step-there known bytes place c.new-rows.result rows _ _ c.in-Took.is c.in_ok-take_next.ensures in
     let taken : rows.items ≡ did.rows = did.taken ∙ ap (λ (before : List (List Cell)). before ++ did.rows) c.new-rows.ensures.items in
     let OfBatches : List (List (List Cell)) → Type 0 = λ all. Left bytes known (place + c.in-Took.size) all in
     subst OfBatches (sym (c.in_ok-push-in-Took.ensures.items ∙ ap (λ (of : List (List Cell)). batches ++ of ∷ []) (c.from.ensures ∙ taken)))
@@ -50,8 +50,8 @@ loop-batches-preserved-in-Learned c =
     let known = c.loop-batches.known in
     let place = c.loop-batches.place in
     let batches = c.loop-batches.batches.items in
-    let did : LearnedMore known (drop place bytes) c.new-rows.result c.step.new.taker c.in-Learned.more c.in-Learned.size =
-    step-there known bytes place c.new-rows.result c.step.new.taker _ _ c.in-Learned.is c.in_ok-step.ensures in
+    let did : LearnedMore known (drop place bytes) c.new-rows.result c.take_next.new.taker c.in-Learned.more c.in-Learned.size =
+    step-there known bytes place c.new-rows.result c.take_next.new.taker _ _ c.in-Learned.is c.in_ok-take_next.ensures in
     let OfBatches : List (List (List Cell)) → Type 0 = λ all. Left bytes c.in-Learned.more (place + c.in-Learned.size) all in
     subst OfBatches (append-nil batches)
     (left_next bytes known place batches c.loop-batches.invariant (drop place bytes) refl
@@ -62,7 +62,7 @@ returns-in-End c =
     let bytes = c.args.bytes.now in
     let known = c.loop-batches.known in
     let place = c.loop-batches.place in
-    let did = step-there known bytes place c.new-rows.result c.step.new.taker _ _ c.in-End.is c.in_ok-step.ensures in
+    let did = step-there known bytes place c.new-rows.result c.take_next.new.taker _ _ c.in-End.is c.in_ok-take_next.ensures in
     c.ended.ensures
     ∙ left_ends bytes known place c.loop-batches.batches.items c.loop-batches.invariant (drop place bytes) refl did.0
 
@@ -71,6 +71,6 @@ returns-in-Fault c =
     let bytes = c.args.bytes.now in
     let known = c.loop-batches.known in
     let place = c.loop-batches.place in
-    let did = step-there known bytes place c.new-rows.result c.step.new.taker _ _ c.in-Fault.is c.in_ok-step.ensures in
+    let did = step-there known bytes place c.new-rows.result c.take_next.new.taker _ _ c.in-Fault.is c.in_ok-take_next.ensures in
     c.ended-in-Fault.ensures
     ∙ left_fails bytes known place c.loop-batches.batches.items c.loop-batches.invariant (drop place bytes) refl c.in-Fault.cause did.0

@@ -35,9 +35,9 @@ loop-count-preserved-in-Took g c =
     let count : ℕ = c.loop-count.count in
     let first = c.args.taker.now in
     let then = c.loop-count.taker in
-    let last = c.step.new.taker in
+    let last = c.take_next.new.taker in
     let did : TookBatch g.T.TakeBatches.took known (drop count bytes) then last c.in-Took.size =
-    step-there g.T.TakeBatches.took known c.latest.result.now bytes count then last _ _ c.latest.ensures c.in-Took.is c.in_ok-step.ensures in
+    step-there g.T.TakeBatches.took known c.latest.result.now bytes count then last _ _ c.latest.ensures c.in-Took.is c.in_ok-take_next.ensures in
     let Then : List (List Cell) → Type 0 = λ rows. g.T.TakeBatches.took first rows then in
     let Last : List (List Cell) → Type 0 = λ rows. g.T.TakeBatches.took first rows last in
     left_next message-goes-on Then Last c.args.known.now c.args.place bytes known count c.loop-count.invariant
@@ -52,9 +52,9 @@ loop-count-preserved-in-Learned g c =
     let count : ℕ = c.loop-count.count in
     let first = c.args.taker.now in
     let then = c.loop-count.taker in
-    let last = c.step.new.taker in
+    let last = c.take_next.new.taker in
     let did : LearnedMore known (drop count bytes) then last c.in-Learned.more c.in-Learned.size =
-    step-there g.T.TakeBatches.took known c.latest.result.now bytes count then last _ _ c.latest.ensures c.in-Learned.is c.in_ok-step.ensures in
+    step-there g.T.TakeBatches.took known c.latest.result.now bytes count then last _ _ c.latest.ensures c.in-Learned.is c.in_ok-take_next.ensures in
     let Then : List (List Cell) → Type 0 = λ rows. g.T.TakeBatches.took first rows then in
     let Last : List (List Cell) → Type 0 = λ rows. g.T.TakeBatches.took first rows last in
     left_next message-goes-on Then Last c.args.known.now c.args.place bytes known count c.loop-count.invariant
@@ -67,8 +67,8 @@ returns-in-End g c =
     let known : Known = newest_of c.args.known.now c.loop-count.newer in
     let bytes : List ℕ = c.args.bytes.now in
     let count : ℕ = c.loop-count.count in
-    let did = step-there g.T.TakeBatches.took known c.latest.result.now bytes count c.loop-count.taker c.step.new.taker _ _
-    c.latest.ensures c.in-End.is c.in_ok-step.ensures in
+    let did = step-there g.T.TakeBatches.took known c.latest.result.now bytes count c.loop-count.taker c.take_next.new.taker _ _
+    c.latest.ensures c.in-End.is c.in_ok-take_next.ensures in
     subst (λ at. TakesWhole (λ rows. g.T.TakeBatches.took c.args.taker.now rows at) c.args.known.now c.args.place bytes c.done.result.known c.done.result.count c.done.result.stand)
     (sym did.1)
     (taken-by (λ rows. g.T.TakeBatches.took c.args.taker.now rows c.loop-count.taker) c.args.known.now c.args.place bytes
@@ -81,8 +81,8 @@ returns-in-Fault-then-is_short g c =
     let bytes : List ℕ = c.args.bytes.now in
     let count : ℕ = c.loop-count.count in
     let going = c.going in
-    let did = step-there g.T.TakeBatches.took known c.latest.result.now bytes count c.loop-count.taker c.step.new.taker _ _
-    c.latest.ensures c.in-Fault.is c.in_ok-step.ensures in
+    let did = step-there g.T.TakeBatches.took known c.latest.result.now bytes count c.loop-count.taker c.take_next.new.taker _ _
+    c.latest.ensures c.in-Fault.is c.in_ok-take_next.ensures in
     let short : c.in-Fault.cause ≡ cause.Short = is-short c.in-Fault.cause (sym c.is_short.ensures ∙ c.if-is_short.true) in
     subst (λ at. TakesWhole (λ rows. g.T.TakeBatches.took c.args.taker.now rows at) c.args.known.now c.args.place bytes going.result.known going.result.count going.result.stand)
     (sym did.1)
@@ -97,8 +97,8 @@ returns-in-Fault g c =
     let bytes : List ℕ = c.args.bytes.now in
     let count : ℕ = c.loop-count.count in
     let done = c.done-in-Fault in
-    let did = step-there g.T.TakeBatches.took known c.latest.result.now bytes count c.loop-count.taker c.step.new.taker _ _
-    c.latest.ensures c.in-Fault.is c.in_ok-step.ensures in
+    let did = step-there g.T.TakeBatches.took known c.latest.result.now bytes count c.loop-count.taker c.take_next.new.taker _ _
+    c.latest.ensures c.in-Fault.is c.in_ok-take_next.ensures in
     subst (λ at. TakesWhole (λ rows. g.T.TakeBatches.took c.args.taker.now rows at) c.args.known.now c.args.place bytes done.result.known done.result.count done.result.stand)
     (sym did.1)
     (taken-by (λ rows. g.T.TakeBatches.took c.args.taker.now rows c.loop-count.taker) c.args.known.now c.args.place bytes
