@@ -37,7 +37,7 @@ loop-count-preserved-in-Took g c =
     let then = c.loop-count.taker in
     let last = c.take_next.new.taker in
     let did : TookBatch g.T.TakeBatches.took known (drop count bytes) then last c.in-Took.size =
-    step-there g.T.TakeBatches.took known c.latest.result.now bytes count then last _ _ c.latest.ensures c.in-Took.is c.in_ok-take_next.ensures in
+    step-there g.T.TakeBatches.took known c.latest.result.now bytes count then last _ _ c.latest.ensures c.in-Took.is c.in_ok-size.ensures in
     let Then : List (List Cell) → Type 0 = λ rows. g.T.TakeBatches.took first rows then in
     let Last : List (List Cell) → Type 0 = λ rows. g.T.TakeBatches.took first rows last in
     left_next message-goes-on Then Last c.args.known.now c.args.place bytes known count c.loop-count.invariant
@@ -45,8 +45,8 @@ loop-count-preserved-in-Took g c =
     (λ rows so_far. subst (λ (more : List (List Cell)). Last (rows ++ more)) (sym (append-nil did.rows))
     (g.met.T.TakeBatches.together first then last rows did.rows so_far did.taken))
 
-pub loop-count-preserved-in-Learned : goal.loop-count-preserved-in-Learned
-loop-count-preserved-in-Learned g c =
+pub loop-count-preserved : goal.loop-count-preserved
+loop-count-preserved g c =
     let known : Known = newest_of c.args.known.now c.loop-count.newer in
     let bytes : List ℕ = c.args.bytes.now in
     let count : ℕ = c.loop-count.count in
@@ -54,7 +54,7 @@ loop-count-preserved-in-Learned g c =
     let then = c.loop-count.taker in
     let last = c.take_next.new.taker in
     let did : LearnedMore known (drop count bytes) then last c.in-Learned.more c.in-Learned.size =
-    step-there g.T.TakeBatches.took known c.latest.result.now bytes count then last _ _ c.latest.ensures c.in-Learned.is c.in_ok-take_next.ensures in
+    step-there g.T.TakeBatches.took known c.latest.result.now bytes count then last _ _ c.latest.ensures c.in-Learned.is c.in_ok-size.ensures in
     let Then : List (List Cell) → Type 0 = λ rows. g.T.TakeBatches.took first rows then in
     let Last : List (List Cell) → Type 0 = λ rows. g.T.TakeBatches.took first rows last in
     left_next message-goes-on Then Last c.args.known.now c.args.place bytes known count c.loop-count.invariant
@@ -68,21 +68,21 @@ returns-in-End g c =
     let bytes : List ℕ = c.args.bytes.now in
     let count : ℕ = c.loop-count.count in
     let did = step-there g.T.TakeBatches.took known c.latest.result.now bytes count c.loop-count.taker c.take_next.new.taker _ _
-    c.latest.ensures c.in-End.is c.in_ok-take_next.ensures in
+    c.latest.ensures c.in-End.is c.in_ok-size.ensures in
     subst (λ at. TakesWhole (λ rows. g.T.TakeBatches.took c.args.taker.now rows at) c.args.known.now c.args.place bytes c.done.result.known c.done.result.count c.done.result.stand)
     (sym did.1)
     (taken-by (λ rows. g.T.TakeBatches.took c.args.taker.now rows c.loop-count.taker) c.args.known.now c.args.place bytes
     c.loop-count.newer _ (length bytes) _ stand.Ended _ c.done.ensures.known c.done.ensures.count c.done.ensures.stand
     (left_ends _ c.args.known.now c.args.place bytes count message-ends c.loop-count.newer c.loop-count.invariant c.loop-count-test.true did.0))
 
-pub returns-in-Fault-then-is_short : goal.returns-in-Fault-then-is_short
-returns-in-Fault-then-is_short g c =
+pub returns-then-is_short : goal.returns-then-is_short
+returns-then-is_short g c =
     let known : Known = newest_of c.args.known.now c.loop-count.newer in
     let bytes : List ℕ = c.args.bytes.now in
     let count : ℕ = c.loop-count.count in
     let going = c.going in
     let did = step-there g.T.TakeBatches.took known c.latest.result.now bytes count c.loop-count.taker c.take_next.new.taker _ _
-    c.latest.ensures c.in-Fault.is c.in_ok-take_next.ensures in
+    c.latest.ensures c.in-Fault.is c.in_ok-size.ensures in
     let short : c.in-Fault.cause ≡ cause.Short = is-short c.in-Fault.cause (sym c.is_short.ensures ∙ c.if-is_short.true) in
     subst (λ at. TakesWhole (λ rows. g.T.TakeBatches.took c.args.taker.now rows at) c.args.known.now c.args.place bytes going.result.known going.result.count going.result.stand)
     (sym did.1)
@@ -98,7 +98,7 @@ returns-in-Fault g c =
     let count : ℕ = c.loop-count.count in
     let done = c.done-in-Fault in
     let did = step-there g.T.TakeBatches.took known c.latest.result.now bytes count c.loop-count.taker c.take_next.new.taker _ _
-    c.latest.ensures c.in-Fault.is c.in_ok-take_next.ensures in
+    c.latest.ensures c.in-Fault.is c.in_ok-size.ensures in
     subst (λ at. TakesWhole (λ rows. g.T.TakeBatches.took c.args.taker.now rows at) c.args.known.now c.args.place bytes done.result.known done.result.count done.result.stand)
     (sym did.1)
     (taken-by (λ rows. g.T.TakeBatches.took c.args.taker.now rows c.loop-count.taker) c.args.known.now c.args.place bytes
