@@ -1,5 +1,5 @@
 -- Checks one after another: the first that fails gives the answer.
-use Rattle.std.specs.Prelude.{Bool, true, false, List, [], ◌∷◌, Option, None, Some, Result, Ok, Err}
+use Rattle.std.specs.Prelude.{Bool, true, false, Option, None, Some, Result, Ok, Err}
 
 -- what is read, and then what is read with it; the first failure stands
 infixl 10 ◌>>=◌

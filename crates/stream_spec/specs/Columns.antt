@@ -217,8 +217,8 @@ value_told values cell = elim (number_in cell) [
   | Some index ↦ slice_index_or values (unsigned_abs index) Null
 ]
 
--- The values that indices tell: each is the place of one (Arrow columnar format, "Dictionary-encoded
--- Layout").
+-- The values that indices tell: each is the place of one (Arrow columnar format,
+-- "Dictionary-encoded Layout").
 abbrev pub values_told : List Cell → List Cell → Result (List Cell) Cause
 values_told values indices = do
   inside ← rule cause.Dictionary (list_all (is_place_in values) indices)

@@ -3,7 +3,6 @@ use Rattle.std.specs.Prelude.{◌≡◌, ℕ, true, List, [], ◌∷◌, ◌++�
 use Rattle.std.specs.Prelude.{flat_map, Option, None, Some}
 use Rattle.cell_model.specs.declared.cell.Cell.{Cell}
 use Rattle.cell_model.specs.declared.cell.Cell.TheVariants.{Null, Num, Truth, Text}
-use Rattle.cell_model.specs.declared.column.Column.{Column}
 use Rattle.cell_model.specs.declared.kind.Kind.{Kind}
 use Rattle.cell_model.specs.declared.kind.Kind.TheVariants as kind
 use Rattle.arrow_spec.specs.Batches.{batch_of_arrays}
@@ -14,7 +13,7 @@ use Rattle.arrow_spec.specs.Examples.{key_and}
 use Rattle.arrow_spec.specs.Streams.{dict_stream_of, end_word, message_of, message_of_schema}
 use Rattle.arrow_spec.specs.declared.fields.Field.{Field}
 use Rattle.stream_spec.specs.Samples.{at, with_bytes}
-use Rattle.stream_spec.specs.Streams.{Reading, Reads, reading_of}
+use Rattle.stream_spec.specs.Streams.{Reads, reading_of}
 use Rattle.stream_spec.specs.declared.fault.Cause.TheVariants as cause
 use Rattle.stream_spec.specs.declared.fault.StreamFault.{StreamFault}
 
@@ -36,11 +35,11 @@ TextAndBytesAreRead = Reads (dict_stream_of text_and_bytes (text_and_bytes_row �
 abbrev pub four_fault_with : List (ℕ × ℕ) → Option StreamFault
 four_fault_with changes = (reading_of (with_bytes changes four_texts_bytes)).fault
 
--- An index above the dictionary, a negative one, and both at a null; a dictionary of no field's, one
--- without values, one of bytes that are no text, and one that leads out of its metadata; a record
--- batch as a dictionary; a dictionary of another header; an encoding that leads out, by another id, by
--- indices of 7 bits, of 64, of 8, without a sign, and of a type that is absent; a dictionary in order,
--- and one that comes behind none.
+-- An index above the dictionary, a negative one, and both at a null; a dictionary of no field's,
+-- one without values, one of bytes that are no text, and one that leads out of its metadata; a
+-- record batch as a dictionary; a dictionary of another header; an encoding that leads out, by
+-- another id, by indices of 7 bits, of 64, of 8, without a sign, and of a type that is absent; a
+-- dictionary in order, and one that comes behind none.
 abbrev pub ChangedIndicesAreFound : Type 0
 ChangedIndicesAreFound = map four_fault_with
     (((768, 0x02) ∷ []) ∷ ((771, 0x80) ∷ []) ∷ ((776, 0x09) ∷ []) ∷ ((779, 0x80) ∷ [])
@@ -67,7 +66,8 @@ coded id kind indices = record {
 
 -- the message of cells of a kind: those of a record batch, or of the dictionary with an id
 abbrev pub cells_message : Option ℕ → Kind → List Cell → List ℕ
-cells_message id kind cells = message_of id (batch_of_arrays (length cells) (array_of kind cells ∷ []))
+cells_message id kind cells = message_of id
+    (batch_of_arrays (length cells) (array_of kind cells ∷ []))
 
 -- the same as values behind those that are there
 abbrev pub more_values : ℕ → Kind → List Cell → List ℕ
@@ -113,7 +113,8 @@ OtherKindsAreRead = map (λ index. batches_of (coded 0 kind.I64 index ∷ [])
     ≡ map (λ index. as_rows (Num (negsuc 0) ∷ Num (pos 5) ∷ []) ∷ [])
     (kind.I8 ∷ kind.U8 ∷ kind.I16 ∷ kind.U16 ∷ kind.I32 ∷ kind.U32 ∷ kind.I64 ∷ kind.U64 ∷ [])
 
--- Two fields may have one dictionary, with indices of their own, where their values are of one kind.
+-- Two fields may have one dictionary, with indices of their own, where their values are of one
+-- kind.
 abbrev pub OneDictionaryIsShared : Type 0
 OneDictionaryIsShared =
     (batches_of (coded 3 kind.Bool kind.U8 ∷ coded 3 kind.Bool kind.I8 ∷ [])

@@ -4,8 +4,7 @@
 -- string are read is of the FlatBuffers internals.
 use Rattle.std.specs.Prelude.{ℕ, ◌+◌, ◌*◌, ◌^◌, Bool, false, ◌||◌, not, ◌==◌, nat_lt}
 use Rattle.std.specs.Prelude.{true, List, [], ◌∷◌, ◌++◌, map, find, ℤ, if◌then◌else◌, Option, None}
-use Rattle.std.specs.Prelude.{Some}
-use Rattle.std.specs.Prelude.{is_some, Result, Ok}
+use Rattle.std.specs.Prelude.{Some, is_some, Result, Ok}
 use Rattle.std.specs.Int.{w64, cast_signed}
 use Rattle.std.specs.List.{list_all, range_with_len}
 use Rattle.std.specs.Str.{is_utf8}
@@ -114,8 +113,8 @@ kind_of_header number =
     else if number == 3 then Some head.Batch
     else None
 
--- The head of a message with this metadata: V4 (3) or V5 (4), and a schema, a dictionary or a record
--- batch (Message.fbs, "Message" and "MessageHeader").
+-- The head of a message with this metadata: V4 (3) or V5 (4), and a schema, a dictionary or a
+-- record batch (Message.fbs, "Message" and "MessageHeader").
 abbrev pub head_of : List ℕ → Result Head MetaFault
 head_of bytes = do
   message ← fault_as fault.Flat (message_table_at bytes)

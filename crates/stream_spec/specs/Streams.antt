@@ -1,8 +1,8 @@
 -- What bytes read as, as a stream: its schema and its batches of rows, and the first fault, if
 -- there is one (Arrow columnar format, "IPC Streaming Format" and "Encapsulated message format").
 use Rattle.std.specs.Prelude.{◌≡◌, ℕ, zero, suc, ◌+◌, ◌^◌, Bool, true, false, not, nat_lt, nat_le}
-use Rattle.std.specs.Prelude.{if◌then◌else◌, ◌==◌, List, [], ◌∷◌, ◌++◌, map, find, length, take, drop}
-use Rattle.std.specs.Prelude.{bytes_eq, option_map, Option, None, Some, Result, Ok, Err}
+use Rattle.std.specs.Prelude.{if◌then◌else◌, ◌==◌, List, [], ◌∷◌, ◌++◌, map, find, length, take}
+use Rattle.std.specs.Prelude.{drop, bytes_eq, option_map, Option, None, Some, Result, Ok, Err}
 use Rattle.cell_model.specs.declared.cell.Cell.{Cell}
 use Rattle.cell_model.specs.declared.column.Column.{Column}
 use Rattle.arrow_spec.specs.Streams.{continuation}

@@ -35,7 +35,8 @@ pub enum Cause {
     /// The metadata's size is negative, or as in [`MetaFault`].
     Flat,
     Version,
-    /// As in [`MetaFault`]; or a dictionary is no field's; or an index is not inside its dictionary.
+    /// As in [`MetaFault`]; or a dictionary is no field's; or an index is not inside its
+    /// dictionary.
     Dictionary,
     Kind,
     /// As in [`MetaFault`]; or a schema does not stand first, and alone; or counts and lengths are
