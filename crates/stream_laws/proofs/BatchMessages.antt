@@ -2,7 +2,6 @@
 use Rattle.std.proofs.Common.{◌≡◌, ℕ, ◌+◌, ◌*◌, ◌^◌, ◌<◌, ◌≤◌, false, List, [], ◌∷◌, ◌++◌, suc, length, length-append, take, refl, ap, ◌∙◌, arith, Some, Option, Result, Ok}
 use Rattle.std.proofs.lemmas.List.{take_at}
 use Rattle.std.specs.Int.{next_multiple_of}
-use Rattle.cell_model.specs.declared.column.Column.{Column}
 use Rattle.arrow_spec.proofs.SizeLemmas.{length-batch}
 use Rattle.arrow_spec.specs.Batches.{Batch, batch_of, buffer_places}
 use Rattle.arrow_spec.specs.Bytes.{padded}

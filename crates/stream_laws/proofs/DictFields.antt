@@ -1,7 +1,7 @@
 -- The table of a field that is encoded by a dictionary reads as the field that it was laid for, and
 -- a schema of such fields as these.
 use Rattle.std.proofs.Common.{◌≡◌, ℕ, ◌+◌, ◌-◌, ◌*◌, ◌^◌, ◌<◌, ◌≤◌, Bool, true, false, List, [], ◌∷◌, ◌++◌, append_assoc, append-nil, length, map, refl, sym, ap, ◌∙◌, subst, arith, lit<, None, Some, Ok, Option, Result}
-use Rattle.std.specs.Prelude.{not, ◌==◌, ◌&&◌, ◌||◌, if◌then◌else◌}
+use Rattle.std.specs.Prelude.{◌==◌, if◌then◌else◌}
 use Rattle.std.specs.Str.{is_utf8}
 use Rattle.std.specs.Int.{w8, w16, w32, w64, from_bool, to_le_bytes}
 use Rattle.std.specs.List.{All, enumerate_from, list_all, range_with_len}
@@ -25,7 +25,6 @@ use Rattle.arrow_spec.specs.declared.types.ArrowType.TheVariants.{SignedInt}
 use Rattle.flat_read.specs.declared.FlatFault.{FlatFault}
 use Rattle.flat_read.specs.Reading.{field_at, target_at}
 use Rattle.stream_spec.specs.Checks.{◌>>=◌}
-use Rattle.stream_spec.specs.declared.message.EncodingTable.{EncodingTable}
 use Rattle.stream_spec.specs.Metadata.{FieldTable, agrees, all_agree, elements, encoding_table_at, field_table_at, fields_at, fields_behind, reference as reference_at, scalar, schema_field_at, target_of, text}
 use Rattle.stream_laws.proofs.Pieces.{Has}
 use Rattle.stream_laws.proofs.Fields.{FieldsAt}

@@ -1,6 +1,6 @@
 -- The message of a dictionary reads as its values, and that of a record batch by dictionaries as its
 -- rows.
-use Rattle.std.proofs.Common.{◌≡◌, ℕ, suc, ◌+◌, ◌*◌, ◌^◌, ◌<◌, ◌≤◌, Bool, true, false, List, [], ◌∷◌, ◌++◌, length, length-append, map, take, get_or, refl, sym, ap, ◌∙◌, subst, arith, Option, Some, Result, Ok}
+use Rattle.std.proofs.Common.{◌≡◌, ℕ, suc, ◌+◌, ◌*◌, ◌^◌, ◌<◌, ◌≤◌, Bool, true, false, List, [], ◌∷◌, ◌++◌, length, length-append, map, take, get_or, refl, ap, ◌∙◌, subst, arith, Option, Some, Result, Ok}
 use Rattle.std.specs.Prelude.{if◌then◌else◌}
 use Rattle.std.specs.Int.{next_multiple_of}
 use Rattle.std.specs.List.{All, enumerate_from, range_with_len}

@@ -1,5 +1,5 @@
 -- A stream by dictionaries reads as its columns and its batches.
-use Rattle.std.proofs.Common.{◌≡◌, ℕ, zero, suc, ◌+◌, ◌^◌, ◌<◌, ◌≤◌, Bool, true, false, List, [], ◌∷◌, ◌++◌, length, map, drop, get_or, cond, refl, sym, ap, ◌∙◌, subst, arith, append_assoc, append-nil, Option, Some, None, Ok}
+use Rattle.std.proofs.Common.{◌≡◌, ℕ, suc, ◌+◌, ◌^◌, ◌<◌, ◌≤◌, Bool, true, false, List, [], ◌∷◌, ◌++◌, length, map, drop, get_or, cond, refl, sym, ap, ◌∙◌, subst, arith, append_assoc, append-nil, Option, Some, None, Ok}
 use Rattle.std.specs.Prelude.{not, ◌==◌, filter, find, flat_map, if◌then◌else◌, option_map}
 use Rattle.std.specs.List.{All, enumerate_from, list_all}
 use Rattle.std.proofs.lemmas.Bool.{and_parts, eq-eqb, ne_eqb, eqb-true}
@@ -18,7 +18,7 @@ use Rattle.arrow_spec.specs.declared.fields.Field.{Field}
 use Rattle.cell_model.specs.Kinds.{values_of}
 use Rattle.cell_model.specs.declared.kind.Kind.{Kind}
 use Rattle.stream_spec.specs.Columns.{Dictionary, values_with, with_values}
-use Rattle.stream_spec.specs.Streams.{Known, Reading, SchemaRead, behind, first_schema, has_dictionary, kind_with, messages_from, next_message, reading_of}
+use Rattle.stream_spec.specs.Streams.{Reading, SchemaRead, first_schema, has_dictionary, kind_with, messages_from, reading_of}
 use Rattle.stream_laws.specs.Laws.{AreTold, DictStreamEnds, DictStreamIsRead, IsBatch}
 use Rattle.stream_laws.proofs.Cells.{AllSlots}
 use Rattle.stream_laws.proofs.DictFields.{all-and-one, encoded_from, encoding_by}

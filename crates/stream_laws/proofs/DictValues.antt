@@ -19,7 +19,7 @@ use Rattle.cell_model.specs.declared.values.Values.{Values}
 use Rattle.cell_model.specs.declared.values.Values.TheVariants.{Signed, Unsigned, Truths, Texts, Blobs, Strips}
 use Rattle.cell_model.specs.declared.width.OffsetWidth.{OffsetWidth}
 use Rattle.arrow_spec.specs.Arrays.{value_of}
-use Rattle.arrow_spec.specs.Dictionaries.{are_encoded, dictionary_cells, dictionary_of, index_cells, index_in, is_encoded, place_in, value_cell, with_cell}
+use Rattle.arrow_spec.specs.Dictionaries.{are_encoded, dictionary_cells, dictionary_of, index_cells, index_in, is_encoded, place_in, value_cell}
 use Rattle.arrow_spec.proofs.Among.{Among, AmongCells, dictionary-among, dictionary-back, found}
 use Rattle.stream_spec.specs.declared.fault.Cause.{Cause}
 use Rattle.stream_spec.specs.Columns.{is_place_in, value_told, values_told}

@@ -1,6 +1,6 @@
 -- What is decided stays so, whatever comes behind.
-use Rattle.std.specs.Prelude.{◌≡◌, ◌^◌, ◌≤◌, length, ℕ, ◌+◌, List, ◌∷◌, ◌++◌, drop, true, false}
-use Rattle.std.specs.Prelude.{[], None, Some, Ok, Err, Option}
+use Rattle.std.specs.Prelude.{◌≡◌, ℕ, ◌+◌, ◌^◌, ◌≤◌, List, [], ◌∷◌, ◌++◌, length, drop, true, false}
+use Rattle.std.specs.Prelude.{Option, None, Some, Ok, Err}
 use Rattle.cell_model.specs.declared.cell.Cell.{Cell}
 use Rattle.flat_read.specs.Reading.{number_from}
 use Rattle.stream_spec.specs.Streams.{Known, MessageRead, SchemaRead, behind, columns_in, fault_at}
@@ -8,11 +8,10 @@ use Rattle.stream_spec.specs.Streams.{first_schema, known_by, next_message, read
 use Rattle.stream_spec.specs.declared.fault.Cause.{Cause}
 use Rattle.stream_spec.specs.declared.fault.Cause.TheVariants as cause
 use Rattle.stream_spec.specs.declared.fault.StreamFault.{StreamFault}
-use Rattle.stream_pieces.specs.Pieces.{Feeds, IsOver, IsReadingOf, IsWaiting, is_waiting}
-use Rattle.stream_pieces.specs.Pieces.{ReadSoFar, Standing}
+use Rattle.stream_pieces.specs.Pieces.{Feeds, IsOver, IsReadingOf, IsWaiting, ReadSoFar, Standing}
+use Rattle.stream_pieces.specs.Pieces.{end_fault, is_waiting, no_more, opening, read_from}
+use Rattle.stream_pieces.specs.Pieces.{schema_of, still_read, tells_end}
 use Rattle.stream_pieces.specs.declared.stand.Stand.TheVariants as stand
-use Rattle.stream_pieces.specs.Pieces.{end_fault, schema_of}
-use Rattle.stream_pieces.specs.Pieces.{no_more, opening, read_from, still_read, tells_end}
 
 -- What the first bytes of a message say is said whatever comes behind them, but that there are too
 -- few.

@@ -1,7 +1,7 @@
 -- A stream that comes in pieces: where its reader stands, and what is still read from there.
-use Rattle.std.specs.Prelude.{◌≡◌, ◌≤◌, ◌⊎◌, flat_map, ℕ, ◌+◌, Bool, true, false, ◌&&◌, ◌==◌}
-use Rattle.std.specs.Prelude.{nat_le, List, [], ◌∷◌, ◌++◌}
-use Rattle.std.specs.Prelude.{length, option_map, Option, None, Some, Result, Ok, Err}
+use Rattle.std.specs.Prelude.{◌≡◌, ◌≤◌, ◌⊎◌, ℕ, ◌+◌, Bool, true, false, ◌&&◌, ◌==◌, nat_le}
+use Rattle.std.specs.Prelude.{List, [], ◌∷◌, ◌++◌, flat_map, length, option_map, Option, None, Some}
+use Rattle.std.specs.Prelude.{Result, Ok, Err}
 use Rattle.cell_model.specs.declared.cell.Cell.{Cell}
 use Rattle.cell_model.specs.declared.column.Column.{Column}
 use Rattle.flat_read.specs.Reading.{number_from}
@@ -119,8 +119,8 @@ abbrev pub rows_of : List (List (List Cell)) → List (List Cell)
 rows_of batches = flat_map (λ rows. rows) batches
 
 -- A piece was read: of the rows of the batches that it made whole this is so, and behind them
--- stands what is still read, whatever comes; and the fault is told, if it is decided. The bytes that
--- are kept are some of those that came.
+-- stands what is still read, whatever comes; and the fault is told, if it is decided. The bytes
+-- that are kept are some of those that came.
 pub record FeedsTo (Took : List (List Cell) → Type 0) (old new : Standing) (piece : List ℕ)
     (fault : Option StreamFault) : Type 0 where
   pub batches : List (List (List Cell))

@@ -1,4 +1,4 @@
-use Rattle.std.proofs.Common.{◌≡◌, ◌+◌, ◌*◌, ◌-◌, ◌++◌, ◌∷◌, [], ℕ, List, map, sym, ap, subst, ◌∙◌, Ok, Err}
+use Rattle.std.proofs.Common.{◌≡◌, ◌+◌, ◌*◌, ◌-◌, ℕ, List, map, sym, ap, subst, ◌∙◌, Ok, Err}
 use Rattle.std.specs.List.{range_with_len}
 use Rattle.arrow_spec.specs.declared.fields.Field.{Field}
 use Rattle.stream_spec.specs.Metadata.{fields_behind, schema_field_at}
