@@ -1,7 +1,5 @@
-use Rattle.std.proofs.Common.{◌≡◌, ◌∙◌, List, ap, sym, Ok, Err, None, Some, Result}
+use Rattle.std.proofs.Common.{◌∙◌, List, ap, sym, Ok, Err, Result}
 use Rattle.cell_model.specs.declared.cell.Cell.{Cell}
-use Rattle.stream_spec.specs.Checks.{◌>>=◌}
-use Rattle.stream_spec.specs.Columns.{cells_by}
 use Rattle.stream_spec.specs.declared.fault.Cause.{Cause}
 use Rattle.ipc_read.specs.Views.{cells_in}
 use Rattle.ipc_read.proofs.FieldLemmas.{places-refused, places-told, plain-told, stored-read, view-told}

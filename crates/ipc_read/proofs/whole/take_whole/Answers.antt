@@ -1,16 +1,16 @@
-use Rattle.std.proofs.Common.{◌≡◌, ◌≤◌, ◌+◌, ◌-◌, ◌∙◌, ap, sym, subst, length, take, drop, append-nil, List, ℕ}
-use Rattle.std.proofs.Common.{[], ◌∷◌, ◌++◌, Option, Result, Some, None, Ok, Err, inr}
+use Rattle.std.proofs.Common.{◌≡◌, ◌+◌, ◌-◌, ◌∙◌, ap, sym, subst, length, take, drop, append-nil, List, ℕ}
+use Rattle.std.proofs.Common.{[], ◌∷◌, ◌++◌, Err, inr}
 use Rattle.std.proofs.lemmas.List.{take_rest}
 use Rattle.cell_model.specs.declared.cell.Cell.{Cell}
 use Rattle.ipc_read.specs.Looks.{TakesWhole, newest_of}
 use Rattle.ipc_read.specs.Steps.{LearnedMore, Steps, TookBatch}
 use Rattle.ipc_read.specs.declared.steps.Step.{Step}
-use Rattle.stream_spec.specs.Streams.{Known, fault_at, next_message}
+use Rattle.stream_spec.specs.Streams.{Known, fault_at}
 use Rattle.stream_spec.specs.declared.fault.Cause.{Cause}
 use Rattle.stream_spec.specs.declared.fault.Cause.TheVariants as cause
 use Rattle.stream_pieces.specs.declared.stand.Stand.TheVariants as stand
 use Rattle.stream_pieces.proofs.GoesOn.{message-goes-on, message-ends, message-fails}
-use Rattle.ipc_read.proofs.WholeLemmas.{Left, left_all, left_ends, left_fails, left_first, left_next, left_waits}
+use Rattle.ipc_read.proofs.WholeLemmas.{left_ends, left_fails, left_first, left_next, left_waits}
 use Rattle.ipc_read.proofs.WholeLemmas.{taken-by}
 use Rattle.ipc_read.proofs.LookLemmas.{is-short}
 use Rattle.ipc_read.proofs.whole.take_whole.Goals as goal
