@@ -56,7 +56,10 @@ pub fn field_view<'a>(
     ensures room { IfOk result (λ v. IsTrue (has_room rows v.view)) }
 {
     let sort = stored_values(field);
-    let view = column(body, &sort, rows, node, validity, buffers)?;
+    let view = match column(body, &sort, rows, node, validity, buffers) {
+        Ok(view) => view,
+        Err(cause) => return Err(cause),
+    };
     let Some(encoding) = &field.encoding else {
         return Ok(FieldView { view, values: None });
     };

@@ -87,7 +87,7 @@ impl Known {
         came: Vec<Cell>,
     ) -> Result<Known, AllocError>
         ensures { IfOk result (λ known. known
-            ≡ with_dictionary self.now dictionary.now came.entry.items) }
+            ≡ with_dictionary self.now dictionary.now came.items) }
     {
         let before = values_with(dictionary.id, self.dictionaries());
         let values = values_after(alloc, dictionary.delta, before, came)?;
@@ -119,7 +119,7 @@ fn values_after(
     came: Vec<Cell>,
 ) -> Result<Vec<Cell>, AllocError>
     ensures { IfOk result (λ values. values.items
-        ≡ values_after delta before.now came.entry.items) }
+        ≡ values_after delta before.now came.items) }
 {
     if !delta {
         return Ok(came);

@@ -6,7 +6,7 @@ ghost use Rattle.stream_spec.specs.Streams.{columns_in, first_schema, reading_of
 use crate::faults::NotRead;
 use crate::known::Known;
 use crate::schema::{SchemaMessage, first_schema};
-use crate::steps::{Step, step};
+use crate::steps::{Step, take_next};
 use arrow_spec::Field;
 use cell_model::{Row, Rows};
 use std::alloc::{AllocError, Global};
@@ -89,7 +89,7 @@ fn with_batches(alloc: Global, schema: SchemaMessage, bytes: &[u8]) -> Result<Re
     let mut batches = Vec::new(alloc);
     loop {
         let mut rows: Vec<Row> = Vec::new(alloc);
-        match step(alloc, &known, &bytes[place as usize..], &mut rows)? {
+        match take_next(alloc, &known, &bytes[place as usize..], &mut rows)? {
             Step::Took(size) => {
                 batches.push(Rows::from(rows))?;
                 place += size;

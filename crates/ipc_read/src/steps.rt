@@ -22,7 +22,7 @@ pub enum Step {
 }
 
 /// Takes the batch with which the bytes begin, if it is one.
-pub fn step<T: TakeBatches>(
+pub fn take_next<T: TakeBatches>(
     alloc: Global,
     known: &Known,
     bytes: &[u8],

@@ -4,7 +4,7 @@ ghost use Rattle.stream_pieces.specs.Pieces.{is_waiting};
 ghost use Rattle.ipc_read.specs.Looks.{TakesWhole, newest_of};
 
 use crate::known::Known;
-use crate::steps::{Step, step};
+use crate::steps::{Step, take_next};
 use crate::taking::TakeBatches;
 use std::alloc::{AllocError, Global};
 use stream_pieces::Stand;
@@ -35,7 +35,7 @@ pub fn take_whole<T: TakeBatches>(
     let mut newer: Option<Known> = None;
     let mut count = 0;
     while count < bytes.len() {
-        match step(alloc, latest(known, &newer), &bytes[count..], taker)? {
+        match take_next(alloc, latest(known, &newer), &bytes[count..], taker)? {
             Step::Took(size) => count += size as usize,
             Step::Learned(more, size) => {
                 count += size as usize;

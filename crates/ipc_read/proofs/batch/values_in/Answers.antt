@@ -1,4 +1,4 @@
-use Rattle.std.proofs.Common.{◌≡◌, ◌∙◌, ◌∷◌, ◌<◌, [], List, ap, arith, length}
+use Rattle.std.proofs.Common.{◌≡◌, ◌∙◌, ◌∷◌, ◌<◌, [], ap, arith, length}
 use Rattle.arrow_spec.specs.declared.fields.Field.{Field}
 use Rattle.stream_spec.specs.Columns.{values_field}
 use Rattle.ipc_read.specs.Batches.{has_all}

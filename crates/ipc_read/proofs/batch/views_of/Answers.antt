@@ -1,4 +1,4 @@
-use Rattle.std.proofs.Common.{◌≡◌, ◌+◌, ◌∷◌, [], List, map, drop, sym, ap, ◌∙◌, length, length-append, arith}
+use Rattle.std.proofs.Common.{◌≡◌, ◌+◌, ◌∷◌, [], List, map, drop, sym, ap, ◌∙◌, length, length-append}
 use Rattle.std.specs.Prelude.{pos, Result}
 use Rattle.std.proofs.lemmas.List.{map-append}
 use Rattle.cell_model.specs.Kinds.{values_of}

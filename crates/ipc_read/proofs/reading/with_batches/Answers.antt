@@ -19,8 +19,8 @@ step-there known bytes place old new step step' is did =
     subst (λ (s : Step). Steps Took known (drop place bytes) old new s) is
     (subst (λ (b : List ℕ). Steps Took known b old new step') (take_rest bytes place) did)
 
-pub loop-batches-init : goal.loop-batches-init
-loop-batches-init c =
+pub loop-rows-init : goal.loop-rows-init
+loop-rows-init c =
     let bytes = c.args.bytes.now in
     let OfKnown : Known → Type 0 = λ known. Left bytes known c.size-place.result c.new-batches.result.items in
     let OfPlace : ℕ → Type 0 = λ place. Left bytes (known_by c.args.schema) place c.new-batches.result.items in
@@ -29,48 +29,48 @@ loop-batches-init c =
     (subst OfPlace (sym c.size-place.ensures)
     (subst OfBatches (sym c.new-batches.ensures.items) (left_first bytes c.args.schema c.requires.schema c.requires.inside)))
 
-pub loop-batches-preserved-in-Took : goal.loop-batches-preserved-in-Took
-loop-batches-preserved-in-Took c =
+pub loop-rows-preserved-in-Took : goal.loop-rows-preserved-in-Took
+loop-rows-preserved-in-Took c =
     let bytes = c.args.bytes.now in
-    let known = c.loop-batches.known in
-    let place = c.loop-batches.place in
-    let batches = c.loop-batches.batches.items in
-    let rows = c.step.new.taker in
+    let known = c.loop-rows.known in
+    let place = c.loop-rows.place in
+    let batches = c.loop-rows.batches.items in
+    let rows = c.take_next.new.taker in
     let did : TookBatch Took known (drop place bytes) c.new-rows.result rows c.in-Took.size =
-    step-there known bytes place c.new-rows.result rows _ _ c.in-Took.is c.in_ok-step.ensures in
+    step-there known bytes place c.new-rows.result rows _ _ c.in-Took.is c.in_ok-size.ensures in
     let taken : rows.items ≡ did.rows = did.taken ∙ ap (λ (before : List (List Cell)). before ++ did.rows) c.new-rows.ensures.items in
     let OfBatches : List (List (List Cell)) → Type 0 = λ all. Left bytes known (place + c.in-Took.size) all in
     subst OfBatches (sym (c.in_ok-push-in-Took.ensures.items ∙ ap (λ (of : List (List Cell)). batches ++ of ∷ []) (c.from.ensures ∙ taken)))
-    (left_next bytes known place batches c.loop-batches.invariant (drop place bytes) refl
+    (left_next bytes known place batches c.loop-rows.invariant (drop place bytes) refl
     (record { batches = did.rows ∷ []; known = known; size = c.in-Took.size }) did.is did.some did.inside)
 
-pub loop-batches-preserved-in-Learned : goal.loop-batches-preserved-in-Learned
-loop-batches-preserved-in-Learned c =
+pub loop-rows-preserved : goal.loop-rows-preserved
+loop-rows-preserved c =
     let bytes = c.args.bytes.now in
-    let known = c.loop-batches.known in
-    let place = c.loop-batches.place in
-    let batches = c.loop-batches.batches.items in
-    let did : LearnedMore known (drop place bytes) c.new-rows.result c.step.new.taker c.in-Learned.more c.in-Learned.size =
-    step-there known bytes place c.new-rows.result c.step.new.taker _ _ c.in-Learned.is c.in_ok-step.ensures in
+    let known = c.loop-rows.known in
+    let place = c.loop-rows.place in
+    let batches = c.loop-rows.batches.items in
+    let did : LearnedMore known (drop place bytes) c.new-rows.result c.take_next.new.taker c.in-Learned.more c.in-Learned.size =
+    step-there known bytes place c.new-rows.result c.take_next.new.taker _ _ c.in-Learned.is c.in_ok-size.ensures in
     let OfBatches : List (List (List Cell)) → Type 0 = λ all. Left bytes c.in-Learned.more (place + c.in-Learned.size) all in
     subst OfBatches (append-nil batches)
-    (left_next bytes known place batches c.loop-batches.invariant (drop place bytes) refl
+    (left_next bytes known place batches c.loop-rows.invariant (drop place bytes) refl
     (record { batches = []; known = c.in-Learned.more; size = c.in-Learned.size }) did.is did.some did.inside)
 
 pub returns-in-End : goal.returns-in-End
 returns-in-End c =
     let bytes = c.args.bytes.now in
-    let known = c.loop-batches.known in
-    let place = c.loop-batches.place in
-    let did = step-there known bytes place c.new-rows.result c.step.new.taker _ _ c.in-End.is c.in_ok-step.ensures in
+    let known = c.loop-rows.known in
+    let place = c.loop-rows.place in
+    let did = step-there known bytes place c.new-rows.result c.take_next.new.taker _ _ c.in-End.is c.in_ok-size.ensures in
     c.ended.ensures
-    ∙ left_ends bytes known place c.loop-batches.batches.items c.loop-batches.invariant (drop place bytes) refl did.0
+    ∙ left_ends bytes known place c.loop-rows.batches.items c.loop-rows.invariant (drop place bytes) refl did.0
 
 pub returns-in-Fault : goal.returns-in-Fault
 returns-in-Fault c =
     let bytes = c.args.bytes.now in
-    let known = c.loop-batches.known in
-    let place = c.loop-batches.place in
-    let did = step-there known bytes place c.new-rows.result c.step.new.taker _ _ c.in-Fault.is c.in_ok-step.ensures in
+    let known = c.loop-rows.known in
+    let place = c.loop-rows.place in
+    let did = step-there known bytes place c.new-rows.result c.take_next.new.taker _ _ c.in-Fault.is c.in_ok-size.ensures in
     c.ended-in-Fault.ensures
-    ∙ left_fails bytes known place c.loop-batches.batches.items c.loop-batches.invariant (drop place bytes) refl c.in-Fault.cause did.0
+    ∙ left_fails bytes known place c.loop-rows.batches.items c.loop-rows.invariant (drop place bytes) refl c.in-Fault.cause did.0
