@@ -1,5 +1,5 @@
 -- Pieces that are written in turn.
-use Rattle.std.proofs.Common.{◌≡◌, ℕ, ◌+◌, ◌<◌, ◌≤◌, Bool, true, false, List, [], ◌++◌, length, take, drop, take-append-drop, get_or, replicate, sym, ap, ◌∙◌, subst, arith, Option, Some, None, Result, Ok, Err, length-append, append-nil}
+use Rattle.std.proofs.Common.{◌≡◌, ℕ, ◌+◌, ◌<◌, ◌≤◌, Bool, true, false, List, [], ◌++◌, length, take, drop, take-append-drop, get_or, replicate, sym, ap, ◌∙◌, subst, arith, Option, Result, Ok, Err, length-append, append-nil}
 use Rattle.std.specs.Prelude.{flat_map}
 use Rattle.std.proofs.lemmas.List.{take-append-le, take-replicate, take_all}
 use Rattle.std.proofs.lemmas.Grind.{flat_map-append}

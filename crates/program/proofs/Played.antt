@@ -1,9 +1,9 @@
 -- How a run ends, by how its rounds ended.
-use Rattle.std.proofs.Common.{◌≡◌, ◌⊎◌, ℕ, Bool, true, List, [], Option, None, Some, refl, sym, subst, inl, inr, arith}
+use Rattle.std.proofs.Common.{◌≡◌, ◌⊎◌, ℕ, Bool, true, false, List, [], Option, None, Some, refl, sym, subst, inl, inr, arith}
 use Rattle.std.specs.Prelude.{IsSome, is_some}
 use Rattle.run_spec.specs.Ran.{RoundRun}
 use Rattle.store_rounds.specs.Logging.{OfLogged}
-use Rattle.store_rounds.specs.Workloads.{GoesCutOff, GoesStopped, GoesTo, GoesToExport, GoesTooLong, GoesUnshown, GoesWhole, OfRounds, WentBy}
+use Rattle.store_rounds.specs.Workloads.{GoesCutOff, GoesStopped, GoesTo, GoesToExport, GoesTooLong, GoesUnadded, GoesUnshown, GoesWhole, OfRounds, WentBy}
 use Rattle.run_laws.specs.Rounds.Fronts.{with_rounds}
 use Rattle.workload_spec.specs.declared.script.Line.{Line}
 use Rattle.workload_spec.specs.declared.script.Script.{Script}
@@ -16,7 +16,7 @@ use Rattle.program.proofs.Exports.{export_asked}
 
 -- whatever is told in these words can be told in those
 abbrev TellsBy : OfRounds → OfRounds → Type 0
-TellsBy Goes Told = (asked : List (List Line)) (ran : List RoundRun) (printed : ℕ) (text : List ℕ) → Goes asked ran printed text → Told asked ran printed text
+TellsBy Goes Told = (asked : List (List Line)) (ran added : List RoundRun) (printed : ℕ) (text : List ℕ) → Goes asked ran added printed text → Told asked ran added printed text
 
 module _ (Goes Told : OfRounds) (script : Script) (before now : Option (List ℕ)) (told : TellsBy Goes Told) where
   -- A run that went whole is told so in other words too.
@@ -24,7 +24,7 @@ module _ (Goes Told : OfRounds) (script : Script) (before now : Option (List ℕ
   whole_told goes = record {
     ran = goes.ran;
     text = goes.text;
-    went = told _ _ _ _ goes.went;
+    went = told _ _ _ _ _ goes.went;
     printed = goes.printed;
   }
 
@@ -40,15 +40,15 @@ module _ (Goes Told : OfRounds) (script : Script) (before now : Option (List ℕ
     shown = goes.shown;
     cut = goes.cut;
     of_round = goes.of_round;
-    went = told _ _ _ _ goes.went;
+    went = told _ _ _ _ _ goes.went;
     between = goes.between;
     printed = goes.printed;
     cut_off = goes.cut_off;
   }
 
   -- A run that went up to some lines is told so in other words too.
-  abbrev to_told : (lines : List Line) → GoesTo Goes script lines before now → GoesTo Told script lines before now
-  to_told lines goes = record {
+  abbrev to_told : (adds : Bool) (lines : List Line) → GoesTo Goes adds script lines before now → GoesTo Told adds script lines before now
+  to_told adds lines goes = record {
     whole = goes.whole;
     round = goes.round;
     rest = goes.rest;
@@ -60,15 +60,15 @@ module _ (Goes Told : OfRounds) (script : Script) (before now : Option (List ℕ
     hidden = goes.hidden;
     of_round = goes.of_round;
     explained_shown = goes.explained_shown;
-    went = told _ _ _ _ goes.went;
+    went = told _ _ _ _ _ goes.went;
     printed = goes.printed;
   }
 
   -- A run whose last round was not shown is told so in other words too.
-  abbrev unshown_told : GoesUnshown Goes script before now → GoesUnshown Told script before now
-  unshown_told goes = record {
+  abbrev unshown_told : (adds : Bool) → GoesUnshown Goes adds script before now → GoesUnshown Told adds script before now
+  unshown_told adds goes = record {
     lines = goes.lines;
-    to = to_told goes.lines goes.to;
+    to = to_told adds goes.lines goes.to;
     whole = goes.whole;
   }
 
@@ -81,20 +81,24 @@ module _ (Goes Told : OfRounds) (script : Script) (before now : Option (List ℕ
     rounds = goes.rounds;
     ran = goes.ran;
     text = goes.text;
-    went = told _ _ _ _ goes.went;
+    went = told _ _ _ _ _ goes.went;
     printed = goes.printed;
   })
-  stopped_told (inr goes) = inr (unshown_told goes)
+  stopped_told (inr goes) = inr (unshown_told false goes)
 
   -- A run whose last round was too long for its log is told so in other words too.
   long_told : GoesTooLong Goes script before now → GoesTooLong Told script before now
-  long_told goes = record { unshown = unshown_told goes.unshown; long = goes.long }
+  long_told goes = record { unshown = unshown_told false goes.unshown; long = goes.long }
+
+  -- A run whose last round its log failed to take is told so in other words too.
+  unadded_told : GoesUnadded Goes script before now → GoesUnadded Told script before now
+  unadded_told goes = record { unshown = unshown_told true goes.unshown; fits = goes.fits }
 
   -- A run that went to an export is told so in other words too.
   export_told : GoesToExport Goes script before now → GoesToExport Told script before now
   export_told goes = record {
     lines = goes.lines;
-    to = to_told goes.lines goes.to;
+    to = to_told false goes.lines goes.to;
     session = goes.session;
     last = goes.last;
     told = goes.told;
@@ -105,7 +109,7 @@ module _ (Goes Told : OfRounds) (script : Script) (before now : Option (List ℕ
 ran_rounds : (path : Option (List ℕ)) (Logs : OfLogged) (script : Script) (before now : Outside) (exported exported_now : Option (List ℕ))
     → ((ran : Script) (text : List ℕ) → Sends ran text exported exported_now → Delivers path script ran text before now)
     → TellsBy (WentBy script exported exported_now Logs) (RanRounds path Logs script before now)
-ran_rounds path Logs script before now exported exported_now delivers = λ asked rounds printed text by. record {
+ran_rounds path Logs script before now exported exported_now delivers = λ asked rounds added printed text by. record {
   log = by.went.log;
   ran = by.went.ran;
   rounds_are = by.went.rounds_are;
@@ -134,7 +138,7 @@ module _ (Goes : OfRounds) (path : Option (List ℕ)) (keeps : Bool) (Logs : OfL
   }
   play_ends status.LogFault named kept fits ends = record {
     kept = kept refl;
-    failed = unshown_told Goes (RanRounds path Logs script before now) script before.printed now.printed told ends;
+    failed = unadded_told Goes (RanRounds path Logs script before now) script before.printed now.printed told ends;
   }
   play_ends status.GroupTooLong named kept fits ends = record {
     kept = fits refl;
@@ -175,13 +179,13 @@ ends_with_path path name keeps Logs script ended before now named started kept f
 module _ (path : Option (List ℕ)) (keeps : Bool) (Logs Told : OfLogged) (script : Script) (before now : Outside)
     (told : (rounds : List RoundRun) (printed : ℕ) → Logs rounds printed → Told rounds printed) where
   with_log : TellsBy (RanRounds path Logs script before now) (RanRounds path Told script before now)
-  with_log = λ asked rounds printed text ran. record {
+  with_log = λ asked rounds added printed text ran. record {
     log = ran.log;
     ran = ran.ran;
     rounds_are = ran.rounds_are;
     explained = ran.explained;
     outlet = ran.outlet;
-    logs = told rounds printed ran.logs;
+    logs = told added printed ran.logs;
   }
 
   pub rounds_told : (ended : Status) → RoundsEnd path keeps Logs script ended before now → RoundsEnd path keeps Told script ended before now
@@ -204,7 +208,7 @@ module _ (path : Option (List ℕ)) (keeps : Bool) (Logs Told : OfLogged) (scrip
           (export_told (RanRounds path Logs script before now) (RanRounds path Told script before now) script before.printed now.printed with_log stops)
   rounds_told status.LogFault ends = record {
     kept = ends.kept;
-    failed = unshown_told (RanRounds path Logs script before now) (RanRounds path Told script before now) script before.printed now.printed with_log ends.failed;
+    failed = unadded_told (RanRounds path Logs script before now) (RanRounds path Told script before now) script before.printed now.printed with_log ends.failed;
   }
   rounds_told status.GroupTooLong ends = record {
     kept = ends.kept;

@@ -23,7 +23,7 @@ use Rattle.run_laws.specs.Rounds.Fronts.{with_rounds}
 use Rattle.store_rounds.specs.Logging.{OfLogged}
 use Rattle.store_rounds.specs.Prepared.{IsFirstFull, begun_with}
 use Rattle.store_rounds.specs.Workloads.{GoesCutOff, GoesStopped, GoesToExport, GoesTooLong}
-use Rattle.store_rounds.specs.Workloads.{GoesUnshown, GoesWhole}
+use Rattle.store_rounds.specs.Workloads.{GoesUnadded, GoesWhole}
 use Rattle.isolation_spec.specs.Commits.{AreCommitsOf}
 use Rattle.isolation_spec.specs.Contents.{History}
 use Rattle.cell_model.specs.declared.table.TableDecl.{TableDecl}
@@ -209,17 +209,18 @@ pub record IsRefused
 
 -- Rounds of these lines of the workload ran with some log of events, as these rounds, and had this
 -- text, which snapshot isolation explains; so many of them were printed, were it in part. The outlet
--- has what the text's lines say, and of the run's log of commits this is told.
+-- has what the text's lines say, and of the run's log of commits this is told, of the first rounds
+-- alone whose commits may be there.
 pub record RanRounds
     (path : Option (List ℕ)) (Logs : OfLogged) (script : Script) (before now : Outside)
-    (asked : List (List Line)) (rounds : List RoundRun) (printed : ℕ) (text : List ℕ)
+    (asked : List (List Line)) (rounds added : List RoundRun) (printed : ℕ) (text : List ℕ)
     : Type 0 where
   pub log : List Logged
   pub ran : Ran (with_rounds asked script) log text
   pub rounds_are : ran.rounds ≡ rounds
   pub explained : Explained (with_rounds asked script) text
   pub outlet : Delivers path script (with_rounds asked script) text before now
-  pub logs : Logs rounds printed
+  pub logs : Logs added printed
 
 -- All rounds ran, and their text was printed.
 abbrev pub IsRun : Option (List ℕ) → OfLogged → Script → Outside → Outside → Type 0
@@ -261,7 +262,7 @@ pub record FailsAppend
     (before now : Outside)
     : Type 0 where
   pub kept : keeps ≡ true
-  pub failed : GoesUnshown (RanRounds path Logs script before now) script before.printed now.printed
+  pub failed : GoesUnadded (RanRounds path Logs script before now) script before.printed now.printed
 
 -- A log is kept, and the commits of a round that ran whole are too long for a record of it: the text
 -- of the round was not shown; that of the rounds before it was printed.

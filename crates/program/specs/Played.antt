@@ -5,14 +5,15 @@ use Rattle.byte_ports.specs.Calls.{AppendsFront}
 use Rattle.script_text.specs.declared.fault.ScriptFault.{ScriptFault}
 use Rattle.script_text.specs.declared.fault.ScriptFault.TheVariants as script_fault
 use Rattle.store_rounds.specs.Workloads.{GoesCutOff, GoesStopped, GoesToExport, GoesTooLong}
-use Rattle.store_rounds.specs.Workloads.{GoesUnshown, GoesWhole, OfRounds}
+use Rattle.store_rounds.specs.Workloads.{GoesUnadded, GoesWhole, OfRounds}
 use Rattle.workload_spec.specs.Grammar.{refused_text}
 use Rattle.workload_spec.specs.declared.script.Script.{Script}
 use Rattle.program.specs.declared.status.Status.{Status}
 use Rattle.program.specs.declared.status.Status.TheVariants as status
 
--- How the rounds of a workload end, where `Goes asked ran printed text` says that rounds of these
--- lines ran, as these rounds, so many of which were printed, and had this text.
+-- How the rounds of a workload end, where `Goes asked ran added printed text` says that rounds of these
+-- lines ran, as these rounds, of which the commits of these first ones may be in the log, so many of
+-- which were printed, and had this text.
 abbrev pub PlayEnds : OfRounds → Script → Status → Option (List ℕ) → Option (List ℕ) → Type 0
 PlayEnds Goes script status.Done before now = GoesWhole Goes script before now
 PlayEnds Goes script status.Usage before now = ⊥
@@ -23,7 +24,7 @@ PlayEnds Goes script status.ExportFault before now = GoesToExport Goes script be
 PlayEnds Goes script status.Memory before now = GoesStopped Goes script before now
 PlayEnds Goes script status.NotAStream before now = ⊥
 PlayEnds Goes script status.TooLong before now = ⊥
-PlayEnds Goes script status.LogFault before now = GoesUnshown Goes script before now
+PlayEnds Goes script status.LogFault before now = GoesUnadded Goes script before now
 PlayEnds Goes script status.NotALog before now = ⊥
 PlayEnds Goes script status.LogFull before now = ⊥
 PlayEnds Goes script status.GroupTooLong before now = GoesTooLong Goes script before now

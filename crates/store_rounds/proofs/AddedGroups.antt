@@ -1,6 +1,6 @@
 -- The groups of a round: what was taken of a row, and what is added to a log.
-use Rattle.std.proofs.Common.{◌≡◌, ℕ, ◌<◌, ◌^◌, ◌==◌, Bool, false, List, ◌++◌, map, length, take, Option, Some, Result, Ok, Err, sym, ap, ◌∙◌, subst, true≢false}
-use Rattle.std.specs.Prelude.{IfOk}
+use Rattle.std.proofs.Common.{◌≡◌, ℕ, ◌<◌, ◌^◌, ◌==◌, Bool, false, List, [], ◌++◌, map, length, take, Option, Some, Result, Ok, Err, sym, ap, ◌∙◌, subst, true≢false}
+use Rattle.std.specs.Prelude.{◌≢◌, IfOk}
 use Rattle.std.specs.declared.alloc.AllocError.{AllocError}
 use Rattle.std.specs.Global.{Vec as GlobalVec}
 use Rattle.std.specs.List.Sorted.{IsNonDecreasingBy, IsPermutation}
@@ -20,11 +20,15 @@ use Rattle.store_rounds.specs.declared.fault.RunFault.TheVariants as fault
 use Rattle.store_rounds.proofs.HandedOver.{front_taken}
 use Rattle.store_rounds.proofs.Logged.{failed_as}
 
+-- A group that is not told empty has a commit.
+pub has_commits : (group : History) (empty : Bool) → empty ≡ (length group == 0) → empty ≡ false → group ≢ []
+has_commits group empty is not_empty = λ none. absurd (true≢false (sym (ap (λ (g : History). length g == 0) none) ∙ sym is ∙ not_empty))
+
 -- A group of some commits that fits is one that a record may have.
 pub is_group : (tables : List TableDecl) (group : History) (empty : Bool) → empty ≡ (length group == 0) → empty ≡ false → length (payload_text group) < 2 ^ 32
     → MayBeAdded tables group → IsGroupOf tables group
 is_group tables group empty is not_empty short may = record {
-  some = λ none. absurd (true≢false (sym (ap (λ (g : History). length g == 0) none) ∙ sym is ∙ not_empty));
+  some = has_commits group empty is not_empty;
   few = may.few;
   each = may.each;
   short = short;
@@ -61,5 +65,5 @@ not_added told moment left_since may_leave T U sessions row now log its its_now 
     by fault.Out adds = absurd adds
     by fault.Export adds = absurd adds
     by fault.Memory adds = adds
-    by fault.Log adds = record { group = group; sets = sets; short = short; any_moment = adds }
+    by fault.Log adds = record { group = group; sets = sets; short = short; failed = adds }
     by fault.GroupTooLong adds = absurd adds

@@ -1,5 +1,5 @@
 -- How a run goes, told without the store.
-use Rattle.std.proofs.Common.{ℕ, List, Option, Ok, Err}
+use Rattle.std.proofs.Common.{ℕ, Bool, true, false, List, Option, Ok, Err}
 use mathlib.Core.Logic.{inl, inr}
 use Rattle.std.specs.Prelude.{IfErr, Result}
 use Rattle.workload_spec.specs.declared.script.Line.{Line}
@@ -9,11 +9,11 @@ use Rattle.store_rounds.specs.Workloads.{GoesPart, GoesTo, GoesUnshown, OfRounds
 use Rattle.store_rounds.specs.declared.fault.RunFault.{RunFault}
 use Rattle.store_rounds.specs.declared.fault.RunFault.TheVariants as fault
 
-module _ (Goes Other : OfRounds) (told : (asked : List (List Line)) (ran : List RoundRun) (printed : ℕ) (text : List ℕ) → Goes asked ran printed text → Other asked ran printed text)
+module _ (Goes Other : OfRounds) (told : (asked : List (List Line)) (ran added : List RoundRun) (printed : ℕ) (text : List ℕ) → Goes asked ran added printed text → Other asked ran added printed text)
     (script : Script) (before now : Option (List ℕ)) where
   -- A run that stopped at a round, told without the store.
-  abbrev to_told : (lines : List Line) → GoesTo Goes script lines before now → GoesTo Other script lines before now
-  to_told lines to = record {
+  abbrev to_told : (adds : Bool) (lines : List Line) → GoesTo Goes adds script lines before now → GoesTo Other adds script lines before now
+  to_told adds lines to = record {
     whole = to.whole;
     round = to.round;
     rest = to.rest;
@@ -25,13 +25,13 @@ module _ (Goes Other : OfRounds) (told : (asked : List (List Line)) (ran : List 
     hidden = to.hidden;
     of_round = to.of_round;
     explained_shown = to.explained_shown;
-    went = told _ _ _ _ to.went;
+    went = told _ _ _ _ _ to.went;
     printed = to.printed;
   }
 
   -- One that stopped behind a round that ran whole, told without the store.
-  abbrev unshown_told : GoesUnshown Goes script before now → GoesUnshown Other script before now
-  unshown_told goes = record { lines = goes.lines; to = to_told goes.lines goes.to; whole = goes.whole }
+  abbrev unshown_told : (adds : Bool) → GoesUnshown Goes adds script before now → GoesUnshown Other adds script before now
+  unshown_told adds goes = record { lines = goes.lines; to = to_told adds goes.lines goes.to; whole = goes.whole }
 
   -- A run that does not come to its last round, told without the store.
   part_told : (failed : RunFault) → GoesPart Goes script failed before now → GoesPart Other script failed before now
@@ -45,14 +45,14 @@ module _ (Goes Other : OfRounds) (told : (asked : List (List Line)) (ran : List 
     shown = goes.shown;
     cut = goes.cut;
     of_round = goes.of_round;
-    went = told _ _ _ _ goes.went;
+    went = told _ _ _ _ _ goes.went;
     between = goes.between;
     printed = goes.printed;
     cut_off = goes.cut_off;
   }
   part_told fault.Export goes = record {
     lines = goes.lines;
-    to = to_told goes.lines goes.to;
+    to = to_told false goes.lines goes.to;
     session = goes.session;
     last = goes.last;
     told = goes.told;
@@ -65,12 +65,12 @@ module _ (Goes Other : OfRounds) (told : (asked : List (List Line)) (ran : List 
     rounds = goes.rounds;
     ran = goes.ran;
     text = goes.text;
-    went = told _ _ _ _ goes.went;
+    went = told _ _ _ _ _ goes.went;
     printed = goes.printed;
   })
-  part_told fault.Memory (inr goes) = inr (unshown_told goes)
-  part_told fault.Log goes = unshown_told goes
-  part_told fault.GroupTooLong goes = record { unshown = unshown_told goes.unshown; long = goes.long }
+  part_told fault.Memory (inr goes) = inr (unshown_told false goes)
+  part_told fault.Log goes = record { unshown = unshown_told true goes.unshown; fits = goes.fits }
+  part_told fault.GroupTooLong goes = record { unshown = unshown_told false goes.unshown; long = goes.long }
 
   -- what a failed run tells in part is told without the store
   pub on_part : {T : Type 0} (r : Result T RunFault) → IfErr r (λ failed. GoesPart Goes script failed before now) → IfErr r (λ failed. GoesPart Other script failed before now)

@@ -1,6 +1,6 @@
 -- What the disk of a run's log has of its rounds, round behind round.
-use Rattle.std.proofs.Common.{◌≡◌, inl, inr, ⊎_elim, ℕ, ◌≤◌, ◌^◌, false, List, [], ◌∷◌, ◌++◌, length, take, Option, None, Some, is_some, Result, Ok, Err, refl, sym, ap, ◌∙◌, subst, append-nil, arith}
-use Rattle.std.specs.Prelude.{All, IfSome}
+use Rattle.std.proofs.Common.{◌≡◌, inl, inr, ⊎_elim, ℕ, ◌<◌, ◌≤◌, ◌^◌, Bool, true, false, List, [], ◌∷◌, ◌++◌, length, take, Option, None, Some, is_some, Result, Ok, Err, refl, sym, ap, ◌∙◌, subst, append-nil, arith}
+use Rattle.std.specs.Prelude.{◌≢◌, All, IfSome}
 use Rattle.std.proofs.lemmas.List.{length_push}
 use Rattle.cell_model.specs.declared.table.TableDecl.{TableDecl}
 use Rattle.commit_log.specs.Commits.{GivesOneOf, StandsOf}
@@ -24,8 +24,8 @@ use Rattle.shared_store.specs.Store.{StoreView}
 use Rattle.shared_store.specs.declared.session.Session.{Session}
 use Rattle.store_rounds.specs.Adding.{Added, EndsRound, LeavesWithOrWithout, MayBeAdded}
 use Rattle.store_rounds.specs.Grouped.{AreByNumber, HandedOver, kept_in}
-use Rattle.store_rounds.specs.Logging.{ComesThrough, IsTooLong, LogsRounds}
-use Rattle.store_rounds.specs.Workloads.{IsUnlogged}
+use Rattle.store_rounds.specs.Logging.{AddsLast, ComesThrough, FitsRecord, IsTooLong, LogsRounds}
+use Rattle.store_rounds.specs.Workloads.{IsUnlogged, added_by}
 use Rattle.store_rounds.specs.declared.fault.RunFault.{RunFault}
 use Rattle.store_rounds.specs.declared.fault.RunFault.TheVariants as fault
 use Rattle.store_rounds.proofs.Grouping.{RowKeeps, made_by, row_begins}
@@ -33,6 +33,14 @@ use Rattle.store_rounds.proofs.Grouping.{RowKeeps, made_by, row_begins}
 -- a fault, of whatever was to be made
 abbrev pub failed_as : (T : Type 0) → RunFault → Result T RunFault
 failed_as T failed = Err failed
+
+-- whether the commits of a round that failed so may be in the log
+abbrev pub is_added_at : RunFault → Bool
+is_added_at fault.Out = false
+is_added_at fault.Export = false
+is_added_at fault.Memory = false
+is_added_at fault.Log = true
+is_added_at fault.GroupTooLong = false
 
 -- ---- a round's commits
 
@@ -74,13 +82,17 @@ module _ (script : Script) (rounds : List RoundRun) (round : RoundRun) where
     pub may_add : length script.tables ≤ 2 ^ 8 → MayBeAdded script.tables group
     may_add few = record { few = few; each = subst (AreCommitsOf script.tables) (sym adds.sets) adds.by.tables }
 
+    -- It is what the last round adds to the history.
+    adds_last : AddsLast script rounds round group
+    adds_last = adds.by.history ∙ ap (λ (g : History). history_at script (rounds ++ round ∷ []) (length rounds) ++ g) (sym adds.sets)
+
     -- What it has of bytes that do not fit is too long.
     pub too_long : 2 ^ 32 ≤ length (payload_text group) → IsTooLong script rounds round
-    too_long long = record {
-      sets = group;
-      adds = adds.by.history ∙ ap (λ (g : History). history_at script (rounds ++ round ∷ []) (length rounds) ++ g) (sym adds.sets);
-      long = long;
-    }
+    too_long long = record { sets = group; adds = adds_last; long = long }
+
+    -- What it has of some commits whose bytes fit is taken by a record.
+    pub fits_record : group ≢ [] → length (payload_text group) < 2 ^ 32 → FitsRecord script rounds round
+    fits_record some short = record { sets = group; adds = adds_last; some = some; short = short }
 
 -- ---- what leaves rounds
 
@@ -159,18 +171,6 @@ module _
         → ComesThrough moment left_since may_leave disk disk script [] 0
     begins script disk log stands = came script disk disk [] log (stood_first script disk log stands)
 
-    -- It came through one more that was not added.
-    came_short : (script : Script) (first disk : D) (rounds : List RoundRun) (round : RoundRun) (log : Log) → Stood told moment left_since may_leave script first disk rounds log
-        → ComesThrough moment left_since may_leave first disk script (rounds ++ round ∷ []) (length rounds)
-    came_short script first disk rounds round log stood = record {
-      any_moment = record {
-        later = stood.any_moment.later;
-        each = λ c left. rounds_go_on script rounds (round ∷ []) 0 c (stood.any_moment.each c left);
-        before = λ t c low left. ⊎_elim (λ was. inl was) (λ leaves. inr (rounds_go_on script rounds (round ∷ []) 0 c leaves)) (stood.any_moment.before t c low left);
-      };
-      kept = λ c may. rounds_go_on script rounds (round ∷ []) (length rounds) c ((came script first disk rounds log stood).kept c may);
-    }
-
     module _ (script : Script) (first old new : D) (rounds : List RoundRun) (round : RoundRun) (group : History) (log : Log)
         (stood : Stood told moment left_since may_leave script first old rounds log) (adds : Adds script rounds round group) (few : length script.tables ≤ 2 ^ 8) where
       -- A crash at any moment up to the end of the adding leaves some of the rounds.
@@ -227,12 +227,6 @@ module _
     logs_all script store row first disk None log rounds alone = tt
     logs_all script store row first disk (Some its) log rounds goes = λ stands. came script first disk rounds goes.now (goes.stood stands)
 
-    -- One round more may not have been added.
-    pub logs_short : (script : Script) (store : StoreView) (row : List Session) (first disk : D) (its log : Option Log) (rounds : List RoundRun) (round : RoundRun)
-        → LogStands told moment left_since may_leave script store row first disk its log rounds → LogsRounds told moment left_since may_leave first disk its script (rounds ++ round ∷ []) (length rounds)
-    logs_short script store row first disk None log rounds round alone = tt
-    logs_short script store row first disk (Some its) log rounds round goes = λ stands. came_short script first disk rounds round goes.now (goes.stood stands)
-
     module _ (script : Script) (store : StoreView) (old mid new : List Session) (first disk now : D) (log later : Option Log) (rounds : List RoundRun) (round : RoundRun)
         (few : length script.tables ≤ 2 ^ 8) where
       -- what is taken behind a round is what it adds to the history
@@ -263,22 +257,22 @@ module _
       -- Of one that did not, the disk has the rounds before it.
       pub log_stops : (T : Type 0) (its : Option Log) (failed : RunFault) → AddsWhatIsTaken → LogStands told moment left_since may_leave script store old first disk its log rounds
           → EndsRound told moment left_since may_leave script.sessions mid new log later disk now (failed_as T failed)
-          → LogsRounds told moment left_since may_leave first now its script (rounds ++ round ∷ []) (length rounds)
+          → LogsRounds told moment left_since may_leave first now its script (added_by (is_added_at failed) rounds round) (length rounds)
       log_stops T None failed adds alone ends = tt
       log_stops T (Some its) failed adds goes ends =
           by failed (subst (λ (l : Option Log). EndsRound told moment left_since may_leave script.sessions mid new l later disk now (failed_as T failed)) goes.is ends)
         where
-          same_disk : now ≡ disk → LogsRounds told moment left_since may_leave first now (Some its) script (rounds ++ round ∷ []) (length rounds)
-          same_disk same = subst (λ (d : D). LogsRounds told moment left_since may_leave first d (Some its) script (rounds ++ round ∷ []) (length rounds)) (sym same)
-              (logs_short script store old first disk (Some its) log rounds round goes)
+          same_disk : now ≡ disk → LogsRounds told moment left_since may_leave first now (Some its) script rounds (length rounds)
+          same_disk same = subst (λ (d : D). LogsRounds told moment left_since may_leave first d (Some its) script rounds (length rounds)) (sym same)
+              (logs_all script store old first disk (Some its) log rounds goes)
 
           by : (failed : RunFault) → EndsRound told moment left_since may_leave script.sessions mid new (Some goes.now) later disk now (failed_as T failed)
-              → LogsRounds told moment left_since may_leave first now (Some its) script (rounds ++ round ∷ []) (length rounds)
+              → LogsRounds told moment left_since may_leave first now (Some its) script (added_by (is_added_at failed) rounds round) (length rounds)
           by fault.Out ends = absurd ends
           by fault.Export ends = absurd ends
           by fault.Memory same = same_disk same
           by fault.Log ends = λ stands.
-              came_failed script first disk now rounds round ends.group goes.now (goes.stood stands) (adds goes.keeps ends.group ends.sets) few ends.any_moment
+              came_failed script first disk now rounds round ends.group goes.now (goes.stood stands) (adds goes.keeps ends.group ends.sets) few ends.failed.any_moment
           by fault.GroupTooLong ends = same_disk ends.same
 
       -- One whose commits do not fit adds them to the history.
@@ -290,6 +284,16 @@ module _
       round_too_long T (Some its) adds goes ends =
           let took = subst (λ (l : Option Log). EndsRound told moment left_since may_leave script.sessions mid new l later disk now (failed_as T fault.GroupTooLong)) goes.is ends in
           too_long script rounds round took.group (adds goes.keeps took.group took.sets) took.long
+
+      -- One whose commits the disk failed to take adds them to the history.
+      pub round_unadded : (T : Type 0) (its : Option Log) → AddsWhatIsTaken → LogStands told moment left_since may_leave script store old first disk its log rounds
+          → EndsRound told moment left_since may_leave script.sessions mid new log later disk now (failed_as T fault.Log)
+          → FitsRecord script rounds round
+      round_unadded T None adds alone ends =
+          absurd (subst (λ (l : Option Log). EndsRound told moment left_since may_leave script.sessions mid new l later disk now (failed_as T fault.Log)) alone.none ends)
+      round_unadded T (Some its) adds goes ends =
+          let took = subst (λ (l : Option Log). EndsRound told moment left_since may_leave script.sessions mid new l later disk now (failed_as T fault.Log)) goes.is ends in
+          fits_record script rounds round took.group (adds goes.keeps took.group took.sets) took.failed.some took.short
 
       -- A round that ended does not tell of the output or the outlet.
       pub ends_inside : (T : Type 0) (its : Option Log) → LogStands told moment left_since may_leave script store old first disk its log rounds

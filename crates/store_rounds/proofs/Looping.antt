@@ -21,14 +21,14 @@ use Rattle.store_rounds.specs.Grouped.{MayHaveHandedOver}
 use Rattle.store_rounds.specs.Logging.{LogsRounds}
 use Rattle.store_rounds.specs.Rounds.{RanRound, RoundStops}
 use Rattle.store_rounds.specs.Runs.{RunsIn}
-use Rattle.store_rounds.specs.Workloads.{GoesCutOff, GoesPart, GoesWhole, IsUnlogged}
+use Rattle.store_rounds.specs.Workloads.{GoesCutOff, GoesPart, GoesWhole, IsUnlogged, added_by}
 use Rattle.store_rounds.specs.declared.duty.Duty.{Duty}
 use Rattle.store_rounds.specs.declared.fault.RunFault.{RunFault}
 use Rattle.store_rounds.specs.declared.fault.RunFault.TheVariants as fault
-use Rattle.store_rounds.proofs.Logged.{AddsWhatIsTaken, KeepsNoneTaken, LogAlone, LogStands, ends_inside, failed_as, log_begins, log_goes_on, log_stops, logs_all, logs_short, round_too_long, unlogged_ends}
+use Rattle.store_rounds.proofs.Logged.{AddsWhatIsTaken, KeepsNoneTaken, LogAlone, LogStands, ends_inside, failed_as, is_added_at, log_begins, log_goes_on, log_stops, logs_all, round_too_long, round_unadded, unlogged_ends}
 use Rattle.store_rounds.proofs.Running.{RoundDone, Running, adds, keeps_none, round, running_begins, running_ends, running_goes_on, running_is_cut_off}
 use Rattle.store_rounds.proofs.Scripts.{may_open}
-use Rattle.store_rounds.proofs.Stopping.{running_stops, running_too_long, running_unshown}
+use Rattle.store_rounds.proofs.Stopping.{running_stops, running_too_long, running_unadded, running_unshown}
 
 -- ---- what a run asks of its script
 
@@ -97,7 +97,6 @@ module _
           running_stops script store old mid asked rest before now exported exported_now exported_later number lines valid split looping.running
           (LogsRounds told moment left_since may_leave first disk its script)
           (logs_all told moment left_since may_leave counts_now only_now script store old first disk its log looping.running.rounds looping.logs)
-          (λ round. logs_short told moment left_since may_leave counts_now only_now script store old first disk its log looping.running.rounds round looping.logs)
           failed stops
 
       module _ (duties : List Duty) (did : RanRound store (number + 1) (crew_of script) old mid lines duties exported_now exported_later)
@@ -157,16 +156,18 @@ module _
             looping.running.rounds this (few_tables script valid) T its failed adds_taken looping.logs ends)
           where
             by : (failed : RunFault) → EndsRound told moment left_since may_leave script.sessions mid row log later disk after (failed_as T failed)
-                → LogsRounds told moment left_since may_leave first after its script (looping.running.rounds ++ this ∷ []) (length looping.running.rounds)
+                → LogsRounds told moment left_since may_leave first after its script (added_by (is_added_at failed) looping.running.rounds this) (length looping.running.rounds)
                 → GoesPart (RunsIn script store row exported exported_later (LogsRounds told moment left_since may_leave first after its script)) script failed before now
             by fault.Out ends logs = absurd ((ends_inside told moment left_since may_leave counts_now only_now script store old mid row first disk after log later
                 looping.running.rounds this (few_tables script valid) T its looping.logs).0 ends)
             by fault.Export ends logs = absurd ((ends_inside told moment left_since may_leave counts_now only_now script store old mid row first disk after log later
                 looping.running.rounds this (few_tables script valid) T its looping.logs).1 ends)
             by fault.Memory ends logs = inr (running_unshown script store old mid asked rest before now exported exported_now exported_later number lines valid split looping.running
-                its_done row may (LogsRounds told moment left_since may_leave first after its script) logs)
-            by fault.Log ends logs = running_unshown script store old mid asked rest before now exported exported_now exported_later number lines valid split looping.running
+                its_done row may (LogsRounds told moment left_since may_leave first after its script) false logs)
+            by fault.Log ends logs = running_unadded script store old mid asked rest before now exported exported_now exported_later number lines valid split looping.running
                 its_done row may (LogsRounds told moment left_since may_leave first after its script) logs
+                (round_unadded told moment left_since may_leave counts_now only_now script store old mid row first disk after log later
+                looping.running.rounds this (few_tables script valid) T its adds_taken looping.logs ends)
             by fault.GroupTooLong ends logs = running_too_long script store old mid asked rest before now exported exported_now exported_later number lines valid split looping.running
                 its_done row may (LogsRounds told moment left_since may_leave first after its script) logs
                 (round_too_long told moment left_since may_leave counts_now only_now script store old mid row first disk after log later

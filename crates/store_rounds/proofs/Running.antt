@@ -381,6 +381,7 @@ module _ (script : Script) (store : StoreView) (old new row : List Session) (ask
             ∙ ap (λ (shape : Shape). round_text shape.tables (number + 1) these) running.is.shape
             ∙ ap (λ n. round_text script.tables (n + 1) these) running.asked_count;
         went = subst (RunsIn script store row exported exported_later Logs (asked ++ lines ∷ [])
+            (both script store old new asked before now exported exported_now exported_later number running lines done)
             (both script store old new asked before now exported exported_now exported_later number running lines done) (length running.rounds + 1))
             (sym (told_further script store old new asked before now exported exported_now exported_later number running lines done text its_text))
             (record {
@@ -409,7 +410,7 @@ pub running_ends : (script : Script) (store : StoreView) (row : List Session) (a
 running_ends script store row asked before now exported exported_now number Logs valid running logs all = record {
   ran = running.rounds;
   text = rounds_text script.tables 1 running.rounds;
-  went = subst (λ (rounds : List (List Line)). RunsIn script store row exported exported_now Logs rounds running.rounds (length running.rounds) (rounds_text script.tables 1 running.rounds)) all
+  went = subst (λ (rounds : List (List Line)). RunsIn script store row exported exported_now Logs rounds running.rounds running.rounds (length running.rounds) (rounds_text script.tables 1 running.rounds)) all
       (record {
         went = went_so_far script running.rounds running.finished exported exported_now running.counted (keeps_now script store row asked before now exported exported_now number running) running.sent asked []
             (sym all ∙ sym (append-nil asked)) valid running.ran;

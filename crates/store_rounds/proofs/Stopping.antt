@@ -26,8 +26,8 @@ use Rattle.store_rounds.specs.Rounds.{AskedUpToExport, CallsStopAtExport, NotBeg
 use Rattle.store_rounds.specs.Runs.{RunsIn}
 use Rattle.store_rounds.specs.Worked.{EndsAtExport, asked_in, share_of}
 use Rattle.store_rounds.specs.Grouped.{MayHaveHandedOver}
-use Rattle.store_rounds.specs.Logging.{IsTooLong, OfLogged}
-use Rattle.store_rounds.specs.Workloads.{LinesEndAtExport, GoesPart, GoesTo, GoesTooLong, GoesUnshown, ToldMemory}
+use Rattle.store_rounds.specs.Logging.{FitsRecord, IsTooLong, OfLogged}
+use Rattle.store_rounds.specs.Workloads.{LinesEndAtExport, GoesPart, GoesTo, GoesTooLong, GoesUnadded, GoesUnshown, ToldMemory, added_by}
 use Rattle.store_rounds.specs.declared.fault.RunFault.{RunFault}
 use Rattle.store_rounds.specs.declared.fault.RunFault.TheVariants as fault
 use Rattle.store_rounds.proofs.Duties.{two_counted}
@@ -164,12 +164,16 @@ module _ (script : Script) (store : StoreView) (old new : List Session) (asked r
     abbrev these : List Share
     these = crew_shares (crew_of script) done.calls
 
-    goes_to : AreFirstLines kept lines
+    -- the rounds whose commits may be in the log
+    abbrev added : Bool → List RoundRun
+    added adds = added_by adds running.rounds (round script store old new asked before now exported exported_now exported_later number running kept done)
+
+    goes_to : (adds : Bool) → AreFirstLines kept lines
         → RunsIn script store row exported exported_later Logs (asked ++ kept ∷ [])
-        (both script store old new asked before now exported exported_now exported_later number running kept done) (length running.rounds)
+        (both script store old new asked before now exported exported_now exported_later number running kept done) (added adds) (length running.rounds)
         (rounds_text script.tables 1 (both script store old new asked before now exported exported_now exported_later number running kept done))
-        → GoesTo (RunsIn script store row exported exported_later Logs) script kept before now
-    goes_to first went = record {
+        → GoesTo (RunsIn script store row exported exported_later Logs) adds script kept before now
+    goes_to adds first went = record {
       whole = asked;
       round = lines;
       rest = rest;
@@ -183,7 +187,7 @@ module _ (script : Script) (store : StoreView) (old new : List Session) (asked r
       explained_shown = explained_so_far script running.rounds running.finished exported exported_now running.counted (keeps_now script store old asked before now exported exported_now number running) running.sent
           asked (lines ∷ rest) (sym split) valid running.ran;
       went = subst (RunsIn script store row exported exported_later Logs (asked ++ kept ∷ [])
-          (both script store old new asked before now exported exported_now exported_later number running kept done) (length running.rounds))
+          (both script store old new asked before now exported exported_now exported_later number running kept done) (added adds) (length running.rounds))
           (text_further script store old new asked before now exported exported_now exported_later number running kept done) went;
       printed = running.printed;
     }
@@ -204,9 +208,8 @@ module _ (script : Script) (store : StoreView) (old new : List Session) (asked r
       sent = did.sent;
     }
 
-    first_goes : Logs (both script store old new asked before now exported exported_now exported_later number running first first_done) (length running.rounds)
-        → GoesTo (RunsIn script store new exported exported_later Logs) script first before now
-    first_goes logs = goes_to first first_done new Logs (first_lines_are_so counts lines) (record {
+    first_goes : Logs running.rounds (length running.rounds) → GoesTo (RunsIn script store new exported exported_later Logs) false script first before now
+    first_goes logs = goes_to first first_done new Logs false (first_lines_are_so counts lines) (record {
       went = went script
           (both script store old new asked before now exported exported_now exported_later number running first first_done)
           (running.finished ++ more script store old new asked before now exported exported_now exported_later number running first first_done)
@@ -274,9 +277,10 @@ module _ (script : Script) (store : StoreView) (old new : List Session) (asked r
 
   -- behind a round that was whole
   module _ (all_done : RoundDone script store old new lines exported_now exported_later) (row : List Session) (may : MayHaveHandedOver new row) (Logs : OfLogged) where
-    pub all_goes : Logs (both script store old new asked before now exported exported_now exported_later number running lines all_done) (length running.rounds)
-        → GoesTo (RunsIn script store row exported exported_later Logs) script lines before now
-    all_goes logs = goes_to lines all_done row Logs (λ session. ([], sym (append-nil (lines_of session lines)))) (record {
+    pub all_goes : (adds : Bool)
+        → Logs (added_by adds running.rounds (round script store old new asked before now exported exported_now exported_later number running lines all_done)) (length running.rounds)
+        → GoesTo (RunsIn script store row exported exported_later Logs) adds script lines before now
+    all_goes adds logs = goes_to lines all_done row Logs adds (λ session. ([], sym (append-nil (lines_of session lines)))) (record {
       went = went_so_far script
           (both script store old new asked before now exported exported_now exported_later number running lines all_done)
           (running.finished ++ more script store old new asked before now exported exported_now exported_later number running lines all_done)
@@ -313,35 +317,43 @@ module _ (script : Script) (store : StoreView) (old new : List Session) (asked r
       })))
 
   -- a run whose round stops it tells which rounds ran, and how far the last one did
-  pub running_stops : (Logs : OfLogged) → Logs running.rounds (length running.rounds) → ((round : RoundRun) → Logs (running.rounds ++ round ∷ []) (length running.rounds))
+  pub running_stops : (Logs : OfLogged) → Logs running.rounds (length running.rounds)
       → (failed : RunFault) → RoundStops store (crew_of script) old new lines exported_now exported_later failed
       → GoesPart (RunsIn script store new exported exported_later Logs) script failed before now
   unfolding first_goes goes_to
-  running_stops Logs logs short fault.Out stops = absurd stops
-  running_stops Logs logs short fault.Export stops = record {
+  running_stops Logs logs fault.Out stops = absurd stops
+  running_stops Logs logs fault.Export stops = record {
     lines = first stops Logs;
-    to = first_goes stops Logs (short (round script store old new asked before now exported exported_now exported_later number running (first stops Logs) (first_done stops Logs)));
+    to = first_goes stops Logs logs;
     session = stops.last.place + 1;
     last = ends_at_export stops.last.place (stops.calls (TheSession (stops.last.place + 1))) (first stops Logs)
         ((first_done stops Logs).asked stops.last.place stops.last.within) stops.last.ends;
     told = told_memory script stops.calls stops.last;
     others = others stops Logs;
   }
-  running_stops Logs logs short fault.Memory stops = stops_before Logs logs stops
-  running_stops Logs logs short fault.Log stops = absurd stops
-  running_stops Logs logs short fault.GroupTooLong stops = absurd stops
+  running_stops Logs logs fault.Memory stops = stops_before Logs logs stops
+  running_stops Logs logs fault.Log stops = absurd stops
+  running_stops Logs logs fault.GroupTooLong stops = absurd stops
 
   -- A run that stops behind a round which was whole tells so.
-  pub running_unshown : (all_done : RoundDone script store old new lines exported_now exported_later) (row : List Session) (may : MayHaveHandedOver new row) (Logs : OfLogged)
-      → Logs (both script store old new asked before now exported exported_now exported_later number running lines all_done) (length running.rounds)
-      → GoesUnshown (RunsIn script store row exported exported_later Logs) script before now
+  pub running_unshown : (all_done : RoundDone script store old new lines exported_now exported_later) (row : List Session) (may : MayHaveHandedOver new row) (Logs : OfLogged) (adds : Bool)
+      → Logs (added_by adds running.rounds (round script store old new asked before now exported exported_now exported_later number running lines all_done)) (length running.rounds)
+      → GoesUnshown (RunsIn script store row exported exported_later Logs) adds script before now
   unfolding all_goes goes_to
-  running_unshown all_done row may Logs logs = record { lines = lines; to = all_goes all_done row may Logs logs; whole = refl }
+  running_unshown all_done row may Logs adds logs = record { lines = lines; to = all_goes all_done row may Logs adds logs; whole = refl }
+
+  -- So does one whose commits the log failed to take.
+  pub running_unadded : (all_done : RoundDone script store old new lines exported_now exported_later) (row : List Session) (may : MayHaveHandedOver new row) (Logs : OfLogged)
+      → Logs (both script store old new asked before now exported exported_now exported_later number running lines all_done) (length running.rounds)
+      → FitsRecord script running.rounds (round script store old new asked before now exported exported_now exported_later number running lines all_done)
+      → GoesUnadded (RunsIn script store row exported exported_later Logs) script before now
+  unfolding running_unshown all_goes goes_to
+  running_unadded all_done row may Logs logs fits = record { unshown = running_unshown all_done row may Logs true logs; fits = fits }
 
   -- So does one whose commits are too long for a record of the log.
   pub running_too_long : (all_done : RoundDone script store old new lines exported_now exported_later) (row : List Session) (may : MayHaveHandedOver new row) (Logs : OfLogged)
-      → Logs (both script store old new asked before now exported exported_now exported_later number running lines all_done) (length running.rounds)
+      → Logs running.rounds (length running.rounds)
       → IsTooLong script running.rounds (round script store old new asked before now exported exported_now exported_later number running lines all_done)
       → GoesTooLong (RunsIn script store row exported exported_later Logs) script before now
   unfolding running_unshown all_goes goes_to
-  running_too_long all_done row may Logs logs long = record { unshown = running_unshown all_done row may Logs logs; long = long }
+  running_too_long all_done row may Logs logs long = record { unshown = running_unshown all_done row may Logs false logs; long = long }

@@ -1,5 +1,5 @@
 -- How the commits of a round are added to the log of a run.
-use Rattle.std.specs.Prelude.{◌≡◌, ℕ, ◌<◌, ◌≤◌, ◌^◌, false, List, ◌++◌, length, take}
+use Rattle.std.specs.Prelude.{◌≡◌, ◌≢◌, ℕ, ◌<◌, ◌≤◌, ◌^◌, false, List, [], ◌++◌, length, take}
 use Rattle.std.specs.Prelude.{Option, None, Some, Result, Ok, Err}
 use Rattle.cell_model.specs.declared.table.TableDecl.{TableDecl}
 use Rattle.commit_log.specs.Commits.{GivesOneOf, StandsOf}
@@ -42,13 +42,18 @@ module _
           → MayBeAdded tables group
           → StandsOf tables (told new) (may_leave new) (before ++ group) later
 
+    -- The disk failed at the adding of the group, which has a commit.
+    pub record FailedGroup (group : History) (log : Log) (old new : D) : Type 0 where
+      pub some : group ≢ []
+      pub any_moment : LeavesWithOrWithout group log old new
+
     -- How the adding of a group ends.
     abbrev pub AddsGroup : {T : Type 0} → History → Log → Log → D → D → Result T RunFault → Type 0
     AddsGroup group log later old new (Ok done) = Added group log later old new
     AddsGroup group log later old new (Err fault.Out) = ⊥
     AddsGroup group log later old new (Err fault.Export) = ⊥
     AddsGroup group log later old new (Err fault.Memory) = new ≡ old
-    AddsGroup group log later old new (Err fault.Log) = LeavesWithOrWithout group log old new
+    AddsGroup group log later old new (Err fault.Log) = FailedGroup group log old new
     AddsGroup group log later old new (Err fault.GroupTooLong) = ⊥
 
     -- ---- the end of a round
@@ -71,7 +76,7 @@ module _
       pub group : History
       pub sets : AreByNumber (kept_in (take sessions row)) group
       pub short : IsShort group
-      pub any_moment : LeavesWithOrWithout group log old new
+      pub failed : FailedGroup group log old new
 
     -- These commits are too long for a record, and nothing was done.
     pub record TookTooMany (sessions : ℕ) (row : List Session) (old new : D) : Type 0 where

@@ -1,5 +1,5 @@
 -- What the disk of a run's log has of the run's rounds.
-use Rattle.std.specs.Prelude.{◌≡◌, ℕ, ◌+◌, ◌≤◌, ◌^◌, List, [], ◌∷◌, ◌++◌, length, Option}
+use Rattle.std.specs.Prelude.{◌≡◌, ◌≢◌, ℕ, ◌+◌, ◌<◌, ◌≤◌, ◌^◌, List, [], ◌∷◌, ◌++◌, length, Option}
 use Rattle.std.specs.Prelude.{IfSome}
 use Rattle.commit_log.specs.Commits.{StandsOf}
 use Rattle.commit_log.specs.declared.log.Log.{Log}
@@ -33,9 +33,20 @@ LogsRounds told moment left_since may_leave old new log script rounds printed = 
     (λ log. StandsOf script.tables (told old) (may_leave old) script.begun log
     → ComesThrough moment left_since may_leave old new script rounds printed)
 
+-- This is what the last round adds to the history.
+abbrev pub AddsLast : Script → List RoundRun → RoundRun → History → Type 0
+AddsLast script whole last sets = history_at script (whole ++ last ∷ []) (length whole + 1)
+    ≡ history_at script (whole ++ last ∷ []) (length whole) ++ sets
+
 -- What the last round adds to the history is too long for a record of a log.
 pub record IsTooLong (script : Script) (whole : List RoundRun) (last : RoundRun) : Type 0 where
   pub sets : History
-  pub adds : history_at script (whole ++ last ∷ []) (length whole + 1)
-      ≡ history_at script (whole ++ last ∷ []) (length whole) ++ sets
+  pub adds : AddsLast script whole last sets
   pub long : 2 ^ 32 ≤ length (payload_text sets)
+
+-- It is something, and a record of a log takes it.
+pub record FitsRecord (script : Script) (whole : List RoundRun) (last : RoundRun) : Type 0 where
+  pub sets : History
+  pub adds : AddsLast script whole last sets
+  pub some : sets ≢ []
+  pub short : length (payload_text sets) < 2 ^ 32

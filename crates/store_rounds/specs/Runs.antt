@@ -32,8 +32,8 @@ pub record IsRowOf (script : Script) (store : StoreView) (row : List Session) : 
 pub record RunsIn
     (script : Script) (store : StoreView) (row : List Session)
     (exported exported_now : Option (List ℕ)) (Logs : OfLogged) (asked : List (List Line))
-    (ran : List RoundRun) (printed : ℕ) (text : List ℕ)
+    (ran added : List RoundRun) (printed : ℕ) (text : List ℕ)
     : Type 0 where
   pub went : Went (with_rounds asked script) ran text exported exported_now
   pub stands : Standing store went.log row
-  pub logs : Logs ran printed
+  pub logs : Logs added printed

@@ -1,6 +1,6 @@
 -- How the run of a workload ends: which rounds ran, what was printed, and what was sent.
-use Rattle.std.specs.Prelude.{◌≡◌, ◌≢◌, ◌⊎◌, ℕ, ◌+◌, true, List, [], ◌∷◌, ◌++◌, length, Option}
-use Rattle.std.specs.Prelude.{Result, Ok, Err}
+use Rattle.std.specs.Prelude.{◌≡◌, ◌≢◌, ◌⊎◌, ℕ, ◌+◌, Bool, true, false, List, [], ◌∷◌, ◌++◌, length}
+use Rattle.std.specs.Prelude.{Option, Result, Ok, Err, if◌then◌else◌}
 use Rattle.std.specs.Io.KnownBytes.{Appends}
 use Rattle.byte_ports.specs.Calls.{AppendsFront, Rose}
 use Rattle.export_spec.specs.Sent.{SaysAllSent}
@@ -12,7 +12,7 @@ use Rattle.run_spec.specs.Occurrences.{Logged}
 use Rattle.run_spec.specs.Ran.{Ran, RoundRun, Share}
 use Rattle.run_laws.specs.Rounds.Fronts.{AreFirstLines, lines_of, with_rounds}
 use Rattle.run_laws.specs.Rounds.Lines.{round_text}
-use Rattle.store_rounds.specs.Logging.{IsTooLong, OfLogged}
+use Rattle.store_rounds.specs.Logging.{FitsRecord, IsTooLong, OfLogged}
 use Rattle.store_rounds.specs.Worked.{EndsAtExport}
 use Rattle.workload_spec.specs.declared.reply.Who.TheVariants.{Session as TheSession}
 use Rattle.store_rounds.specs.declared.fault.RunFault.{RunFault}
@@ -32,17 +32,18 @@ pub record Went
   pub sent : Appends exported exported_now bytes
   pub says : SaysAllSent script text bytes
 
--- What is told of a run: below `Goes asked ran printed text` says that rounds of these lines ran, that
--- these are the rounds as they ran, that so many of them were printed, were it in part, and that all
--- had this text.
+-- What is told of a run: below `Goes asked ran added printed text` says that rounds of these lines
+-- ran, that these are the rounds as they ran, that of these first ones the commits were added to the
+-- run's log or were about to be, that so many of them were printed, were it in part, and that all had
+-- this text.
 abbrev pub OfRounds : Type 1
-OfRounds = List (List Line) → List RoundRun → ℕ → List ℕ → Type 0
+OfRounds = List (List Line) → List RoundRun → List RoundRun → ℕ → List ℕ → Type 0
 
 -- All rounds ran, and their text was printed.
 pub record GoesWhole (Goes : OfRounds) (script : Script) (before now : Option (List ℕ)) : Type 0 where
   pub ran : List RoundRun
   pub text : List ℕ
-  pub went : Goes script.rounds ran (length ran) text
+  pub went : Goes script.rounds ran ran (length ran) text
   pub printed : Appends before now text
 
 -- The output failed at the text of a round, which ran last: that of the rounds before it was printed
@@ -59,16 +60,24 @@ pub record GoesCutOff
   pub shown : List ℕ
   pub cut : List ℕ
   pub of_round : cut ≡ round_text script.tables (length whole + 1) last.shares
-  pub went : Goes (whole ++ round ∷ []) (ran ++ last ∷ []) (length ran + 1) (shown ++ cut)
+  pub went : Goes (whole ++ round ∷ []) (ran ++ last ∷ []) (ran ++ last ∷ []) (length ran + 1)
+      (shown ++ cut)
   pub between : Option (List ℕ)
   pub printed : Appends before between shown
   pub cut_off : AppendsFront between now cut
 
+-- The rounds whose commits may be in the log of a run that stopped at a round: these, and the last
+-- one where it was to be added.
+abbrev pub added_by : Bool → List RoundRun → RoundRun → List RoundRun
+added_by adds ran last = if adds then ran ++ last ∷ [] else ran
+
 -- The run stopped at a round: the rounds before it ran, and their text alone was printed. Of the
 -- round these first lines of each session ran, and each worker made its turns, which is the last
--- round of the run; the text of this round's lines alone was not printed.
+-- round of the run; the text of this round's lines alone was not printed. Its commits were to be
+-- added to the run's log, or nothing of them is there.
 pub record GoesTo
-    (Goes : OfRounds) (script : Script) (lines : List Line) (before now : Option (List ℕ))
+    (Goes : OfRounds) (adds : Bool) (script : Script) (lines : List Line)
+    (before now : Option (List ℕ))
     : Type 0 where
   pub whole : List (List Line)
   pub round : List Line
@@ -81,7 +90,8 @@ pub record GoesTo
   pub hidden : List ℕ
   pub of_round : hidden ≡ round_text script.tables (length whole + 1) last.shares
   pub explained_shown : Explained (with_rounds whole script) shown
-  pub went : Goes (whole ++ lines ∷ []) (ran ++ last ∷ []) (length ran) (shown ++ hidden)
+  pub went : Goes (whole ++ lines ∷ []) (ran ++ last ∷ []) (added_by adds ran last) (length ran)
+      (shown ++ hidden)
   pub printed : Appends before now shown
 
 -- A session's lines end at an export.
@@ -102,11 +112,18 @@ pub record ToldMemory (shares : List Share) (session : ℕ) : Type 0 where
 
 -- It stopped behind a round that ran whole, whose text was not printed.
 pub record GoesUnshown
-    (Goes : OfRounds) (script : Script) (before now : Option (List ℕ))
+    (Goes : OfRounds) (adds : Bool) (script : Script) (before now : Option (List ℕ))
     : Type 0 where
   pub lines : List Line
-  pub to : GoesTo Goes script lines before now
+  pub to : GoesTo Goes adds script lines before now
   pub whole : lines ≡ to.round
+
+-- It stopped behind a round whose commits were to be added to the log, which failed: there are some,
+-- and a record takes them.
+pub record GoesUnadded (Goes : OfRounds) (script : Script) (before now : Option (List ℕ)) : Type 0
+  where
+    pub unshown : GoesUnshown Goes true script before now
+    pub fits : FitsRecord script unshown.to.ran unshown.to.last
 
 -- It stopped before a round, of which nothing ran: the rounds before it ran, and their text was
 -- printed.
@@ -119,29 +136,30 @@ pub record GoesBefore
   pub rounds : script.rounds ≡ whole ++ round ∷ rest
   pub ran : List RoundRun
   pub text : List ℕ
-  pub went : Goes whole ran (length ran) text
+  pub went : Goes whole ran ran (length ran) text
   pub printed : Appends before now text
 
--- It stopped for want of memory.
+-- It stopped for want of memory: nothing of the last round is in the log.
 abbrev pub GoesStopped : OfRounds → Script → Option (List ℕ) → Option (List ℕ) → Type 0
 GoesStopped Goes script before now =
-    GoesBefore Goes script before now ⊎ GoesUnshown Goes script before now
+    GoesBefore Goes script before now ⊎ GoesUnshown Goes false script before now
 
--- It stopped behind a round whose commits are too long for a record of the log.
+-- It stopped behind a round whose commits are too long for a record of the log: nothing of them is
+-- there.
 pub record GoesTooLong
     (Goes : OfRounds) (script : Script) (before now : Option (List ℕ))
     : Type 0 where
-  pub unshown : GoesUnshown Goes script before now
+  pub unshown : GoesUnshown Goes false script before now
   pub long : IsTooLong script unshown.to.ran unshown.to.last
 
 -- It stopped behind a round in which the outlet failed at an export, which counts as answered
 -- `memory`: its session stopped there, its calls of the run's last round end with this export, and
--- the others ended their lines.
+-- the others ended their lines. Nothing of the round is in the log.
 pub record GoesToExport
     (Goes : OfRounds) (script : Script) (before now : Option (List ℕ))
     : Type 0 where
   pub lines : List Line
-  pub to : GoesTo Goes script lines before now
+  pub to : GoesTo Goes false script lines before now
   pub session : ℕ
   pub last : LinesEndAtExport lines session
   pub told : ToldMemory to.last.shares session
@@ -152,17 +170,17 @@ abbrev pub GoesPart : OfRounds → Script → RunFault → Option (List ℕ) →
 GoesPart Goes script fault.Out before now = GoesCutOff Goes script before now
 GoesPart Goes script fault.Export before now = GoesToExport Goes script before now
 GoesPart Goes script fault.Memory before now = GoesStopped Goes script before now
-GoesPart Goes script fault.Log before now = GoesUnshown Goes script before now
+GoesPart Goes script fault.Log before now = GoesUnadded Goes script before now
 GoesPart Goes script fault.GroupTooLong before now = GoesTooLong Goes script before now
 
 -- Rounds of these lines of the script went so, for an outlet that had and now has these bytes, and of
 -- the run's log this can be told.
 pub record WentBy
     (script : Script) (exported exported_now : Option (List ℕ)) (Logs : OfLogged)
-    (asked : List (List Line)) (ran : List RoundRun) (printed : ℕ) (text : List ℕ)
+    (asked : List (List Line)) (ran added : List RoundRun) (printed : ℕ) (text : List ℕ)
     : Type 0 where
   pub went : Went (with_rounds asked script) ran text exported exported_now
-  pub logs : Logs ran printed
+  pub logs : Logs added printed
 
 -- a count of the output's faults: it rises where the output failed
 abbrev pub CountsOutFault : {T : Type 0} → ℕ → ℕ → Result T RunFault → Type 0

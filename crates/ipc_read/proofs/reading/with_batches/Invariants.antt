@@ -3,8 +3,8 @@ use Rattle.ipc_read.proofs.ReadingLemmas.{Left}
 use Rattle.ipc_read.proofs.reading.with_batches.Given as goal
 
 -- what is left behind the batches so far
-abbrev pub invariant-loop-batches : goal.invariant-loop-batches
-invariant-loop-batches l = Left l.bytes l.columns.items l.place l.batches.items
+abbrev pub invariant-loop-rows : goal.invariant-loop-rows
+invariant-loop-rows l = Left l.bytes l.known l.place l.batches.items
 
-abbrev pub decreases-loop-batches : goal.decreases-loop-batches
-decreases-loop-batches l = length l.bytes - l.place
+abbrev pub decreases-loop-rows : goal.decreases-loop-rows
+decreases-loop-rows l = length l.bytes - l.place

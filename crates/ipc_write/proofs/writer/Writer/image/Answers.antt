@@ -1,6 +1,6 @@
 use Rattle.std.proofs.Common.{◌≡◌, ◌∙◌, ℕ, List, Option, length, sym, subst}
 use Rattle.std.specs.Prelude.{IfSome}
-use Rattle.arrow_spec.specs.Batches.{Array, arrays_of, batch_of_arrays}
+use Rattle.arrow_spec.specs.Batches.{Array, batch_of_arrays}
 use Rattle.arrow_spec.specs.Streams.{batch_message, message_of_batch}
 use Rattle.arrow_array.proofs.ArrayLemmas.{arrays-few}
 use Rattle.block_columns.specs.Images.{rows_of}

@@ -1,4 +1,4 @@
-use Rattle.std.proofs.Common.{◌∙◌, List, ℕ, [], length, ap, subst, arith}
+use Rattle.std.proofs.Common.{◌∙◌, List, ℕ, length, ap, subst, arith}
 use Rattle.ipc_write.specs.Calls.{MakesPiece}
 use Rattle.ipc_write.proofs.PieceLemmas.{framed-is}
 use Rattle.ipc_write.proofs.writer.Writer.without_body.Goals as goal

@@ -12,5 +12,5 @@ returns-clause-part g c =
     on_part
     (RunsIn script c.args.self.store c.run_rounds.new.row (g.X.Sink.written c.args.outlet.now) (g.X.Sink.written c.run_rounds.new.outlet) logs)
     (WentBy script (g.X.Sink.written c.args.outlet.now) (g.X.Sink.written c.run_rounds.new.outlet) logs)
-    (λ asked ran printed text runs. record { went = runs.went; logs = runs.logs })
+    (λ asked ran added printed text runs. record { went = runs.went; logs = runs.logs })
     script (g.O.Sink.written c.args.out.now) (g.O.Sink.written c.run_rounds.new.out) c.run_rounds.result c.run_rounds.ensures.part
