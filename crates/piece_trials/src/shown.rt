@@ -21,18 +21,21 @@ struct Case {
 
 /// The text of bytes in pieces of this size, and whether its last line came before their end.
 #[derive(Drop)]
-struct Said {
-    text: Vec<u8>,
-    decided: bool,
+pub(crate) struct Said {
+    pub(crate) text: Vec<u8>,
+    pub(crate) decided: bool,
 }
 
+/// No stream here has more bytes.
+const MOST: usize = 2_000;
+
 /// Shows the bytes in pieces of this size, up to where the last line is decided.
-fn shown_by(alloc: Global, bytes: &[u8], size: usize) -> Result<Said, Fail> {
+pub(crate) fn shown_by(alloc: Global, bytes: &[u8], size: usize) -> Result<Said, Fail> {
     let mut showing = Showing::new(alloc);
     let (mut text, mut all) = (Vec::new(alloc), Vec::new(alloc));
     let mut fed_bytes = 0usize;
     for piece in bytes.chunks(size.max(1)) {
-        if fed_bytes > 800 || piece.len() > 800 || showing.rows > 9 {
+        if fed_bytes > MOST || piece.len() > MOST || showing.rows > 9 {
             return Err(Fail::from("too long"));
         }
         let stand = showing.next(alloc, piece, &mut text)?;

@@ -1,27 +1,44 @@
 //! A test of the reading of a stream, message by message.
 ghost use Rattle.std.specs.Prelude.{◌<◌, ◌^◌, length};
 
-use arrow_meta::{batch_message, schema_message};
+use arrow_meta::{batch_message, dict_schema_message, dictionary_message, schema_message};
 use arrow_spec::Field;
 use cell_model::{Bytes, Cell, Column, Kind, Row, Schema, are_named};
-use ipc_read::{Known, Next, first_schema, next_message};
+use ipc_read::{Known, Next, first_schema, next_message, read};
 use std::alloc::{AllocError, Global};
 use std::test::Fail;
 
-/// The schema of the column `key:i64`.
-fn key_schema(alloc: Global) -> Result<Schema, Fail> {
-    let columns = vec![in alloc;
-        Column {
-            name: Bytes::from_slice(alloc, b"key")?,
-            kind: Kind::I64,
-            nullable: false,
-        },
-    ]?;
+/// The column `key:i64`.
+fn key_column(alloc: Global) -> Result<Column, Fail> {
+    Ok(Column {
+        name: Bytes::from_slice(alloc, b"key")?,
+        kind: Kind::I64,
+        nullable: false,
+    })
+}
+
+/// The schema of these columns.
+fn schema_of(columns: Vec<Column>) -> Result<Schema, Fail> {
     if are_named(&columns) {
         Ok(Schema::new(columns)?)
     } else {
         Err(Fail::from("a name is no text"))
     }
+}
+
+/// The schema of the column `key:i64`.
+fn key_schema(alloc: Global) -> Result<Schema, Fail> {
+    schema_of(vec![in alloc; key_column(alloc)?]?)
+}
+
+/// The schema of the columns `key:i64` and `v:utf8?`.
+fn text_schema(alloc: Global) -> Result<Schema, Fail> {
+    let text = Column {
+        name: Bytes::from_slice(alloc, b"v")?,
+        kind: Kind::Utf8,
+        nullable: true,
+    };
+    schema_of(vec![in alloc; key_column(alloc)?, text]?)
 }
 
 /// Adds a message's marker, its size and its metadata, which has a multiple of 8 bytes. Without
@@ -89,5 +106,68 @@ fn three_keys_are_read_message_by_message(rt: HostRuntime) -> Result<(), Fail> {
     let last = next_message(rt.alloc(), &known, &bytes[336..])?;
     assert!(rt; matches!(last, Next::End));
     assert!(rt; is_the_key(known.fields()));
+    Ok(())
+}
+
+/// The texts "b" and "a", none, and "b", by the dictionary of "a" and "b", beside the keys from 1 on:
+/// the schema at 0, the dictionary at 296, the batch at 528, and the end word at 784.
+fn four_texts(alloc: Global) -> Result<Vec<u8>, Fail> {
+    let mut bytes = Vec::new(alloc);
+    let schema = dict_schema_message(alloc, &text_schema(alloc)?)?;
+    add_message(&mut bytes, schema.as_slice())?;
+    let values = dictionary_message(alloc, 1, 2, &[(2, 0)], &[(0, 0), (0, 12), (16, 2)], 24)?;
+    add_message(&mut bytes, values.as_slice())?;
+    bytes.extend_from_slice(b"\0\0\0\0\x01\0\0\0\x02\0\0\0\0\0\0\0ab\0\0\0\0\0\0")?;
+    let buffers = [(0, 0), (0, 32), (32, 1), (40, 16)];
+    let batch = batch_message(alloc, 4, &[(4, 0), (4, 1)], &buffers, 56)?;
+    add_message(&mut bytes, batch.as_slice())?;
+    for key in [1u64, 2, 3, 4] {
+        bytes.extend_from_slice(&key.to_le_bytes())?;
+    }
+    bytes.extend_from_slice(b"\x0b\0\0\0\0\0\0\0\x01\0\0\0\0\0\0\0\0\0\0\0\x01\0\0\0")?;
+    add_message(&mut bytes, &[])?;
+    Ok(bytes)
+}
+
+/// Whether a row of a key and a text has this text, or none.
+fn has_text(row: &Row, text: Option<&[u8]>) -> bool {
+    match (row.as_slice(), text) {
+        ([_, Cell::Text(own)], Some(text)) => own.as_slice() == text,
+        ([_, Cell::Null], None) => true,
+        _ => false,
+    }
+}
+
+#[test]
+fn a_dictionary_comes_in_front_of_its_indices(rt: HostRuntime) -> Result<(), Fail> {
+    let bytes = four_texts(rt.alloc())?;
+    assert_eq!(rt; bytes.len(), 792);
+    let Ok(schema) = first_schema(rt.alloc(), &bytes) else {
+        return Err(Fail::from("no schema"));
+    };
+    assert_eq!(rt; schema.size(), 296);
+    let known = Known::of(rt.alloc(), schema)?;
+    let Next::Dictionary(learned) = next_message(rt.alloc(), &known, &bytes[296..])? else {
+        return Err(Fail::from("no dictionary"));
+    };
+    assert_eq!(rt; learned.size, 232);
+    let Next::Batch(batch) = next_message(rt.alloc(), &learned.known, &bytes[528..])? else {
+        return Err(Fail::from("no batch"));
+    };
+    assert_eq!(rt; batch.len(), 4);
+    assert!(rt; has_text(&batch.row(rt.alloc(), 0)?, Some(b"b".as_slice())));
+    assert!(rt; has_text(&batch.row(rt.alloc(), 1)?, Some(b"a".as_slice())));
+    assert!(rt; has_text(&batch.row(rt.alloc(), 2)?, None));
+    let without = next_message(rt.alloc(), &known, &bytes[528..])?;
+    assert!(rt; matches!(without, Next::Fault(_)));
+    Ok(())
+}
+
+#[test]
+fn the_whole_of_a_stream_is_read(rt: HostRuntime) -> Result<(), Fail> {
+    let reading = read(rt.alloc(), &four_texts(rt.alloc())?)?;
+    assert_eq!(rt; reading.fields().map(|fields| fields.len()), Some(2));
+    assert_eq!(rt; reading.batches().len(), 1);
+    assert!(rt; reading.fault().is_none());
     Ok(())
 }
