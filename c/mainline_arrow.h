@@ -47,9 +47,11 @@ struct ArrowArray {
 
 enum { MAINLINE_MOST_COLUMNS = 32 };
 
-/* What an export takes of C's heap: of the schema and of the array each one block. The names of the
+/* What an export takes of C's heap: of the schema and of the array each one block, which goes with
+ * the last of its parts, since whoever takes an array may keep a child alone. The names of the
  * columns stand behind the block of the schema. */
 struct mainline_arrow_schema {
+    size_t parts;
     struct ArrowSchema *children[MAINLINE_MOST_COLUMNS];
     struct ArrowSchema child[MAINLINE_MOST_COLUMNS];
     char formats[MAINLINE_MOST_COLUMNS][16];
@@ -57,6 +59,7 @@ struct mainline_arrow_schema {
 };
 
 struct mainline_arrow_array {
+    size_t parts;
     struct mainline *handle;
     size_t lend;
     const void *none[1];
@@ -65,20 +68,22 @@ struct mainline_arrow_array {
     const void *buffers[MAINLINE_MOST_COLUMNS][3];
 };
 
-static inline void mainline_arrow_leave_schema(struct ArrowSchema *child) { child->release = NULL; }
-
-static inline void mainline_arrow_leave_array(struct ArrowArray *child) { child->release = NULL; }
-
-static inline void mainline_arrow_end_schema(struct ArrowSchema *schema) {
-    free(schema->private_data);
+static inline void mainline_arrow_leave_schema(struct ArrowSchema *schema) {
+    struct mainline_arrow_schema *all = schema->private_data;
+    for (int64_t at = 0; at < schema->n_children; at++)
+        if (schema->children[at]->release) schema->children[at]->release(schema->children[at]);
     schema->release = NULL;
+    if (--all->parts == 0) free(all);
 }
 
-static inline void mainline_arrow_end_array(struct ArrowArray *array) {
+static inline void mainline_arrow_leave_array(struct ArrowArray *array) {
     struct mainline_arrow_array *all = array->private_data;
+    for (int64_t at = 0; at < array->n_children; at++)
+        if (array->children[at]->release) array->children[at]->release(array->children[at]);
+    array->release = NULL;
+    if (--all->parts != 0) return;
     mainline_end_lend(all->handle, all->lend);
     free(all);
-    array->release = NULL;
 }
 
 /* The format string of a kind (Arrow columnar format, "Data type description"). */
@@ -118,13 +123,15 @@ static inline uint32_t mainline_arrow_export_schema(struct mainline *handle, uin
         mainline_arrow_format(all->formats[at], &lane);
         all->child[at] = (struct ArrowSchema){.format = all->formats[at], .name = next,
                                               .flags = lane.nullable ? ARROW_FLAG_NULLABLE : 0,
+                                              .private_data = all,
                                               .release = mainline_arrow_leave_schema};
         all->children[at] = &all->child[at];
         next += name.length + 1;
     }
     *schema = (struct ArrowSchema){.format = "+s", .name = "", .n_children = (int64_t)columns,
                                    .children = all->children, .private_data = all,
-                                   .release = mainline_arrow_end_schema};
+                                   .release = mainline_arrow_leave_schema};
+    all->parts = columns + 1;
     return MAINLINE_DONE;
 }
 
@@ -150,12 +157,14 @@ static inline uint32_t mainline_arrow_export_array(struct mainline *handle, size
         }
         all->child[at] = (struct ArrowArray){.length = rows, .null_count = lane.nulls,
                                              .n_buffers = count, .buffers = all->buffers[at],
+                                             .private_data = all,
                                              .release = mainline_arrow_leave_array};
         all->children[at] = &all->child[at];
     }
     *array = (struct ArrowArray){.length = rows, .n_buffers = 1, .buffers = all->none,
                                  .n_children = (int64_t)columns, .children = all->children,
-                                 .private_data = all, .release = mainline_arrow_end_array};
+                                 .private_data = all, .release = mainline_arrow_leave_array};
+    all->parts = columns + 1;
     return MAINLINE_DONE;
 }
 
