@@ -10,4 +10,3 @@ use mir.Syntax.{Ty}
 abbrev pub owned_at : (Ty → Ptr → Fml) → (R : RattleType) → Ptr → Option R.Denot → Fml
 owned_at holds R at None = ftrue
 owned_at holds R at (Some value) = box_owns holds R at value
-

@@ -11,7 +11,9 @@ use std::mem;
 
 /// The most tables, and the most blocks and slots of one.
 const MOST_TABLES: usize = 16;
+
 const MOST_BLOCKS: u32 = 1 << 10;
+
 const MOST_SLOTS: u32 = 1 << 15;
 
 /// The kind of a number, as `enum mainline_kind` counts them.

@@ -7,8 +7,7 @@ use crate::owner::Owner;
 use std::alloc::Global;
 use std::boxed::Box;
 use std::marker::Model;
-use std::mem;
-use std::ptr;
+use std::{mem, ptr};
 
 /// What C takes the pointer to be one to.
 #[repr(C)]
