@@ -1,5 +1,5 @@
 -- Reading one of a list after another.
-use Rattle.std.proofs.Common.{◌≡◌, ℕ, suc, ◌+◌, ◌*◌, ◌-◌, ◌<◌, ◌≤◌, Bool, true, false, length, List, [], ◌∷◌, ◌++◌, map, Ok, Err, refl, sym, ap, ◌∙◌, append_assoc, arith}
+use Rattle.std.proofs.Common.{◌≡◌, ℕ, suc, ◌+◌, ◌*◌, ◌-◌, ◌<◌, ◌≤◌, Bool, true, false, length, List, [], ◌∷◌, ◌++◌, map, Ok, Err, refl, sym, ap, ◌∙◌, arith}
 use Rattle.std.specs.Prelude.{Result, IsErrOf, nat_le, if◌then◌else◌}
 use Rattle.std.specs.List.{range_with_len}
 use Rattle.std.proofs.Math.Nat.{mul_comm}
@@ -8,25 +8,32 @@ use Rattle.std.proofs.lemmas.List.FromFn.{map-range_with_len_more}
 use Rattle.std.proofs.lemmas.Bool.{leb-true}
 use Rattle.flat_read.specs.Reading.{number_from, vector_at}
 use Rattle.flat_read.specs.declared.FlatFault.{FlatFault}
-use Rattle.stream_spec.specs.Checks.{◌>>=◌, each_of}
+use Rattle.arrow_spec.specs.declared.fields.Field.{Field}
+use Rattle.stream_spec.specs.Checks.{◌>>=◌}
+use Rattle.stream_spec.specs.Metadata.{fields_behind, schema_field_at}
+use Rattle.stream_spec.specs.declared.fault.MetaFault.{MetaFault}
 
 -- the first of the numbers that are left
 pub next_range : (i n : ℕ) → i < n → range_with_len i (n - i) ≡ i ∷ range_with_len (i + 1) (n - (i + 1))
 next_range i n lt = let e : n - i ≡ suc (n - (i + 1)) = omega (arith, lt) in ap (range_with_len i) e
 
-module _ {A B E : Type 0} (reads : A → Result B E) where
-  -- An item read in front of the rest may as well be put behind those before it.
-  behind : (front : List B) (item : B) (rest : Result (List B) E) → ((rest >>= λ items. Ok (item ∷ items)) >>= λ items. Ok (front ++ items)) ≡ (rest >>= λ items. Ok ((front ++ item ∷ []) ++ items))
-  behind front item (Ok items) = ap Ok (sym (append_assoc front (item ∷ []) items))
-  behind front item (Err fault) = refl
+-- what is made of a field that is read, or not
+abbrev and_then : List ℕ → List Field → List ℕ → Result Field MetaFault → Result (List Field) MetaFault
+and_then bytes before places read = do
+  field ← read
+  fields_behind bytes (before ++ field ∷ []) places
 
-  -- one that is read goes behind those before it
-  pub each_next : (front : List B) (x : A) (xs : List A) (item : B) → reads x ≡ Ok item → (each_of reads (x ∷ xs) >>= λ items. Ok (front ++ items)) ≡ (each_of reads xs >>= λ items. Ok ((front ++ item ∷ []) ++ items))
-  each_next front x xs item is = ap (λ (r : Result B E). ((r >>= λ first. each_of reads xs >>= λ rest. Ok (first ∷ rest)) >>= λ items. Ok (front ++ items))) is ∙ behind front item (each_of reads xs)
+-- a field that is read goes behind those before it
+pub field_next : (bytes : List ℕ) (before : List Field) (place : ℕ) (places : List ℕ) (field : Field)
+    → schema_field_at bytes before place ≡ Ok field
+    → fields_behind bytes before (place ∷ places) ≡ fields_behind bytes (before ++ field ∷ []) places
+field_next bytes before place places field is = ap (and_then bytes before places) is
 
-  -- one that is not is the answer
-  pub each_fails : (front : List B) (x : A) (xs : List A) (fault : E) → reads x ≡ Err fault → (each_of reads (x ∷ xs) >>= λ items. Ok (front ++ items)) ≡ Err fault
-  each_fails front x xs fault is = ap (λ (r : Result B E). ((r >>= λ first. each_of reads xs >>= λ rest. Ok (first ∷ rest)) >>= λ items. Ok (front ++ items))) is
+-- one that is not is the answer
+pub field_fails : (bytes : List ℕ) (before : List Field) (place : ℕ) (places : List ℕ) (fault : MetaFault)
+    → schema_field_at bytes before place ≡ Err fault
+    → fields_behind bytes before (place ∷ places) ≡ Err fault
+field_fails bytes before place places fault is = ap (and_then bytes before places) is
 
 -- a fault is the same whatever was to be read
 pub same_fault : {S T E : Type 0} (stood fault : E) → IsErrOf {T = S} (Err stood) fault → IsErrOf {T = T} (Err stood) fault

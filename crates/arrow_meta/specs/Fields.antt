@@ -1,14 +1,14 @@
--- What a field is, as the reader has it.
+-- What the table of a field says, as the reader has it.
 use Rattle.arrow_meta.specs.declared.schemas.FieldTable.{FieldTable}
-use Rattle.stream_spec.specs.Metadata.{FieldTable as Field}
+use Rattle.stream_spec.specs.Metadata.{FieldTable as Table}
 
--- the field that was read
-abbrev pub field_of : FieldTable → Field
-field_of field = record {
+-- the table that was read
+abbrev pub table_of : FieldTable → Table
+table_of field = record {
   name = field.name.now;
   nullable = field.nullable;
   type_place = field.type_place;
-  dictionary = field.dictionary;
+  encoding = field.encoding;
   children = field.children;
   type' = field.arrow_type;
 }

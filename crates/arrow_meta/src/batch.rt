@@ -9,8 +9,8 @@ ghost use Rattle.arrow_meta.specs.Laying.{IsLaid};
 use flat_build::FlatBuild;
 use std::alloc::AllocError;
 
-/// Lays the table of the dictionary with this id, whose values are a record batch with its nodes and
-/// the places of its buffers. Answers the table's place.
+/// Lays the table of the dictionary with this id, whose values are a record batch with its nodes
+/// and the places of its buffers. Answers the table's place.
 pub fn lay_dictionary_batch(
     build: &mut FlatBuild,
     id: u32,

@@ -1,5 +1,5 @@
-//! The laying of a schema's columns, as tables behind one another (Schema.fbs, "Schema", "Field" and
-//! "DictionaryEncoding").
+//! The laying of a schema's columns, as tables behind one another (Schema.fbs, "Schema", "Field"
+//! and "DictionaryEncoding").
 ghost use Rattle.std.specs.Prelude.{◌≡◌, ◌+◌, ◌*◌, ◌^◌, ◌&&◌, ◌<◌, ◌≤◌, All, IfOk, OnOk, length};
 ghost use Rattle.std.specs.Prelude.{map, None, Some};
 ghost use Rattle.arrow_spec.specs.Dictionaries.{is_encoded};

@@ -7,8 +7,8 @@ use flat_read::{FlatFault, root};
 use stream_spec::{Head, HeadKind, MessageTable, MetaFault};
 
 /// The head of a message with this metadata, so that its kind and its body's length are known
-/// before anything else of it is read; or the first fault: the metadata's form, the version, a
-/// dictionary, another kind, what is absent.
+/// before anything else of it is read; or the first fault: the metadata's form, the version,
+/// another kind, what is absent.
 pub fn read_head(bytes: &[u8]) -> Result<Head, MetaFault>
     ensures { result ≡ head_of bytes.now }
 {
@@ -21,7 +21,7 @@ pub fn read_head(bytes: &[u8]) -> Result<Head, MetaFault>
     }
     let kind = match message.header_type {
         1 => HeadKind::Schema,
-        2 => return Err(MetaFault::Dictionary),
+        2 => HeadKind::Dictionary,
         3 => HeadKind::Batch,
         _ => return Err(MetaFault::Kind),
     };

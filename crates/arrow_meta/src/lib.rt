@@ -5,6 +5,7 @@
 mod batch;
 mod batches;
 mod columns;
+mod dictionaries;
 mod fields;
 mod headers;
 mod heads;
@@ -14,6 +15,7 @@ mod type_tables;
 mod types;
 
 pub use batches::{BatchMeta, read_batch};
+pub use dictionaries::read_dictionary;
 pub use fields::NotRead;
 pub use heads::read_head;
 pub use message::{batch_message, dict_schema_message, dictionary_message, schema_message};

@@ -1,7 +1,7 @@
 //! The type of a field's values, as its metadata tells it (Schema.fbs, "Type").
 ghost use Rattle.std.specs.Prelude.{◌≡◌};
-ghost use Rattle.stream_spec.specs.Metadata.{date_type, fixed_type, int_type, kind_of_type};
-ghost use Rattle.stream_spec.specs.Metadata.{target_of, type_at};
+ghost use Rattle.stream_spec.specs.Metadata.{date_type, fixed_type, index_type, int_type};
+ghost use Rattle.stream_spec.specs.Metadata.{is_type, kind_of_type, target_of, type_at};
 
 use crate::fields::scalar;
 use arrow_spec::ArrowType;
@@ -50,6 +50,16 @@ fn int_type(bytes: &[u8], table: Option<u64>) -> Result<ArrowType, FlatFault>
     }
 }
 
+/// What the Int table of an encoding's indices says; an absent one says 32 bits and a sign.
+pub fn index_type(bytes: &[u8], table: Option<u64>) -> Result<ArrowType, FlatFault>
+    ensures { result ≡ index_type bytes.now table }
+{
+    match table {
+        Some(_) => int_type(bytes, table),
+        None => Ok(ArrowType::SignedInt(32)),
+    }
+}
+
 /// What a FixedSizeBinary table says; an absent one says no bytes.
 fn fixed_type(bytes: &[u8], table: Option<u64>) -> Result<ArrowType, FlatFault>
     ensures { result ≡ fixed_type bytes.now table }
@@ -70,6 +80,27 @@ fn date_type(bytes: &[u8], table: Option<u64>) -> Result<ArrowType, FlatFault>
     match field(bytes, table, 0)? {
         Some(place) => Ok(ArrowType::Date(number(bytes, place, 2)?)),
         None => Ok(ArrowType::Date(MILLISECONDS)),
+    }
+}
+
+/// Whether these types are one and the same.
+pub fn is_type(one: ArrowType, other: ArrowType) -> bool
+    ensures { result ≡ is_type one other }
+{
+    match (one, other) {
+        (ArrowType::SignedInt(bits), ArrowType::SignedInt(others)) => bits == others,
+        (ArrowType::UnsignedInt(bits), ArrowType::UnsignedInt(others)) => bits == others,
+        (ArrowType::FixedSizeBinary(bytes), ArrowType::FixedSizeBinary(others)) => bytes == others,
+        (ArrowType::Date(unit), ArrowType::Date(other)) => unit == other,
+        (ArrowType::Plain(number), ArrowType::Plain(other)) => number == other,
+        (
+            ArrowType::SignedInt(_)
+            | ArrowType::UnsignedInt(_)
+            | ArrowType::FixedSizeBinary(_)
+            | ArrowType::Date(_)
+            | ArrowType::Plain(_),
+            _,
+        ) => false,
     }
 }
 

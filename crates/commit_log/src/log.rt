@@ -97,6 +97,7 @@ impl Log {
 
     /// Adds the commits, as one record. A crash at any moment leaves the log without them or with
     /// all of them, and from its Ok on with them. After a `Disk` the log has to be opened again.
+    /// The list has a commit: a record of none would make the file no log.
     pub fn append<D: Disk>(
         &mut self,
         alloc: Global,

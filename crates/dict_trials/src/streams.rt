@@ -2,12 +2,15 @@
 ghost use Rattle.std.specs.Prelude.{◌≤◌, ◌^◌, All, length};
 ghost use Rattle.cell_model.specs.Rows.{Fits};
 
-use arrow_array::{all_fit, build};
+use arrow_array::{add_u32, all_fit, build};
 use byte_ports::ListSink;
 use cell_model::{Buffers, Bytes, Cell, Column, Kind, Row, Schema, are_named};
 use dict_gather::{Dicts, gather_dict};
 use ipc_write::Writer;
+use rand_core::utils::NextWord;
+use rand_pcg::Pcg32;
 use std::alloc::{AllocError, Global};
+use std::convert::AsStr;
 use std::slice;
 use std::test::Fail;
 use std::thread::Threads;
@@ -102,6 +105,95 @@ fn as_many_values_as_rows_stay(rt: HostRuntime) -> Result<(), Fail> {
     Ok(())
 }
 
+/// Texts that are sorted, each kept once and looked for give the same dictionary and indices.
+#[test]
+fn random_texts_are_found_by_their_indices(rt: HostRuntime) -> Result<(), Fail> {
+    let alloc = rt.alloc();
+    let mut words = Pcg32::new(17, 50);
+    for table in 0..30 {
+        let mut texts = Vec::new(alloc);
+        for _ in 0..words.next_word() % 60 {
+            texts.push(random_text(alloc, &mut words)?)?;
+        }
+        let rows = rows_of(alloc, texts.as_slice())?;
+        let dicts = gathered(&rt, alloc, rows.as_slice())?;
+        let (starts, bytes) = dictionary_of(alloc, texts.as_slice())?;
+        assert!(rt;
+            is(values_of(&dicts, 1), 1, starts.as_slice()),
+            "table {table}"
+        );
+        assert!(rt;
+            is(values_of(&dicts, 1), 2, bytes.as_slice()),
+            "table {table}"
+        );
+        let indices = indices_in(alloc, texts.as_slice())?;
+        assert!(rt;
+            is(indices_of(&dicts), 1, indices.as_slice()),
+            "table {table}"
+        );
+    }
+    Ok(())
+}
+
+/// No bytes, or up to 33 of few letters: many texts begin alike, and a zero may end one.
+fn random_text(alloc: Global, words: &mut Pcg32) -> Result<String, AllocError> {
+    let front = match words.next_word() % 4 {
+        0 => return Ok(String::new(alloc)),
+        1 => "",
+        2 => "aaaaaaaaaaaaaaaa",
+        _ => "aaaaaaaaaaaaaaaaaaaaaaaaaaaaaaa",
+    };
+    let mut text = String::from_str(alloc, front)?;
+    for _ in 0..words.next_word() % 3 {
+        text.push(match words.next_word() % 3 {
+            0 => '\0',
+            1 => 'a',
+            _ => 'é',
+        })?;
+    }
+    Ok(text)
+}
+
+/// The texts that are no nulls, ascending, each once.
+fn ascending<'a>(alloc: Global, texts: &'a [String]) -> Result<Vec<&'a str>, AllocError> {
+    let mut sorted = Vec::new(alloc);
+    for text in texts {
+        if !text.is_empty() {
+            sorted.push(text.as_str())?;
+        }
+    }
+    sorted.sort_unstable();
+    sorted.dedup();
+    Ok(sorted)
+}
+
+/// The offsets and the bytes of their dictionary.
+fn dictionary_of(alloc: Global, texts: &[String]) -> Result<(Vec<u8>, Vec<u8>), AllocError> {
+    let mut starts = Vec::new(alloc);
+    let mut bytes = Vec::new(alloc);
+    for value in ascending(alloc, texts)? {
+        add_u32(&mut starts, short(bytes.len()))?;
+        bytes.extend_from_slice(value.as_bytes())?;
+    }
+    add_u32(&mut starts, short(bytes.len()))?;
+    Ok((starts, bytes))
+}
+
+/// The indices of the texts, that of a null being 0.
+fn indices_in(alloc: Global, texts: &[String]) -> Result<Vec<u8>, AllocError> {
+    let values = ascending(alloc, texts)?;
+    let mut indices = Vec::new(alloc);
+    for text in texts {
+        let place = values.binary_search(&text.as_str()).unwrap_or(0);
+        add_u32(&mut indices, short(place))?;
+    }
+    Ok(indices)
+}
+
+fn short(number: usize) -> u32 {
+    u32::try_from(number).unwrap_or(u32::MAX)
+}
+
 /// Whether there are so many rows, and so many of them null in the second column.
 fn has(dicts: &Dicts, rows: u32, nulls: u32) -> bool {
     dicts.rows() == rows && dicts.arrays().len() == 2 && dicts.nulls(1) == nulls
@@ -154,10 +246,10 @@ fn begins_at(all: &[u8], from: usize, bytes: &[u8]) -> bool {
 }
 
 /// A row for each text.
-fn rows_of(alloc: Global, texts: &[&str]) -> Result<Vec<Row>, AllocError> {
+fn rows_of<T: AsStr>(alloc: Global, texts: &[T]) -> Result<Vec<Row>, AllocError> {
     let mut rows = Vec::new(alloc);
     for text in texts {
-        rows.push(row(alloc, text)?)?;
+        rows.push(row(alloc, text.as_str())?)?;
     }
     Ok(rows)
 }

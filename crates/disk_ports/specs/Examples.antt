@@ -1,7 +1,7 @@
 -- Worked examples of what calls do to a file and of what crashes leave.
 use Rattle.std.specs.Prelude.{◌≡◌, [], ◌∷◌, None, Some, Result, Ok, Err}
 use Rattle.byte_ports.specs.FaultPlan.{new_plan}
-use Rattle.disk_ports.specs.Crashes.{Leaves}
+use Rattle.disk_ports.specs.Crashes.{Elapses, Leaves}
 use Rattle.disk_ports.specs.FileSteps.{Lays, Reads, ReadsFrom, Tears, TearsWithin, Writes}
 use Rattle.disk_ports.specs.Memory.{Held, Asked, Wrote, Synced, held_since, may_hold}
 
@@ -74,3 +74,8 @@ CrashesLeaveTornRanges =
     × (¬ may_hold synced (1 ∷ 2 ∷ []))
     × may_hold synced (1 ∷ 9 ∷ [])
     × (¬ Leaves 1 1 (λ c. c ≡ 1 ∷ 2 ∷ []) (λ c. c ≡ 3 ∷ 2 ∷ []))
+
+-- What a moment might leave before, it may leave now.
+abbrev pub MomentsStay : Type 0
+MomentsStay =
+    ¬ Elapses 0 1 (λ t c. c ≡ 1 ∷ []) (λ t c. c ≡ 2 ∷ []) (λ c. c ≡ 2 ∷ [])

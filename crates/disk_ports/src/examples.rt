@@ -1,6 +1,6 @@
 //! Worked examples. Each function does nothing; its contract is an example.
 ghost use Rattle.disk_ports.specs.Examples.{CrashesLeaveTornRanges, PiecesAreLaid, RangesAreTorn};
-ghost use Rattle.disk_ports.specs.Examples.{ReadsAreOfTheFile, WritesLayOrTear};
+ghost use Rattle.disk_ports.specs.Examples.{MomentsStay, ReadsAreOfTheFile, WritesLayOrTear};
 
 /// A piece takes the place of as many bytes, and a gap before it holds any.
 pub fn pieces_are_laid()
@@ -25,4 +25,9 @@ pub fn reads_are_of_the_file()
 /// What was written is torn by a crash until it is synced.
 pub fn crashes_leave_torn_ranges()
     ensures { CrashesLeaveTornRanges }
+{}
+
+/// What a crash since a moment might leave stays what it may leave.
+pub fn moments_stay()
+    ensures { MomentsStay }
 {}

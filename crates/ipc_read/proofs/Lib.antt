@@ -1,4 +1,5 @@
 mod BatchLemmas
+mod FieldLemmas
 mod LookLemmas
 mod OffsetLemmas
 mod RangeLemmas

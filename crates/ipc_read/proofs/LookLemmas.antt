@@ -5,23 +5,24 @@ use Rattle.std.proofs.Common.{Err}
 use Rattle.std.proofs.lemmas.List.{drop-drop, drop_all}
 use Rattle.std.proofs.lemmas.Bool.{true≢false}
 use Rattle.cell_model.specs.declared.cell.Cell.{Cell}
-use Rattle.stream_spec.specs.Streams.{SchemaRead, fault_at, first_schema, reading_of}
+use Rattle.stream_spec.specs.Streams.{Known, SchemaRead, behind, fault_at, first_schema, known_by}
+use Rattle.stream_spec.specs.Streams.{reading_of}
 use Rattle.stream_spec.specs.declared.fault.Cause.{Cause}
 use Rattle.stream_spec.specs.declared.fault.Cause.TheVariants as cause
 use Rattle.stream_pieces.specs.declared.stand.Stand.{Stand}
 use Rattle.stream_pieces.specs.declared.stand.Stand.TheVariants as stand
-use Rattle.stream_pieces.specs.Pieces.{IsWaiting, Known, behind, is_waiting, known_by, still_read}
+use Rattle.stream_pieces.specs.Pieces.{IsWaiting, is_waiting, still_read}
 use Rattle.stream_pieces.specs.Pieces.{tells_end}
 use Rattle.stream_pieces.proofs.GoesOn.{early-end-goes-on, no-schema-goes-on, schema-goes-on}
-use Rattle.ipc_read.specs.Looks.{Looks, NoRows, TakesWhole, stands}
+use Rattle.ipc_read.specs.Looks.{Looks, NoRows, TakesWhole, newest_of, stands}
 
--- the schema, and then the batches behind it
-pub look-schema : (bytes : List ℕ) (schema : SchemaRead) → first_schema bytes ≡ Ok schema
+-- the schema, and then the messages behind it
+look-known : (bytes : List ℕ) (schema : SchemaRead) → first_schema bytes ≡ Ok schema
     → schema.size ≤ length bytes
-    → (Took : List (List Cell) → Type 0) (count : ℕ) (stand : Stand)
-    → TakesWhole Took (known_by schema) schema.size (drop schema.size bytes) count stand
-    → Looks Took None 0 bytes (Some (known_by schema)) (schema.size + count) stand
-look-schema bytes schema is inside Took count stand takes =
+    → (Took : List (List Cell) → Type 0) (now : Known) (count : ℕ) (stand : Stand)
+    → Looks Took (Some (known_by schema)) schema.size (drop schema.size bytes) (Some now) count stand
+    → Looks Took None 0 bytes (Some now) (schema.size + count) stand
+look-known bytes schema is inside Took now count stand takes =
     let from_0 : schema.size + count ≡ 0 + (schema.size + count) = omega arith in
     let at : drop count (drop schema.size bytes)
     ≡ drop (schema.size + count) bytes = drop-drop count schema.size bytes in
@@ -31,17 +32,33 @@ look-schema bytes schema is inside Took count stand takes =
       within = omega (arith, inside, takes.within, length-drop schema.size bytes);
       goes_on = λ more. schema-goes-on bytes more schema is ∙ takes.goes_on more
           ∙ ap (λ (b : List ℕ). behind takes.batches
-          (still_read (stands (Some (known_by schema)) (schema.size + count) b stand) more)) at
+          (still_read (stands (Some now) (schema.size + count) b stand) more)) at
           ∙ ap (λ (p : ℕ). behind takes.batches
-          (still_read (stands (Some (known_by schema)) p (drop (schema.size + count) bytes) stand)
+          (still_read (stands (Some now) p (drop (schema.size + count) bytes) stand)
           more)) from_0;
       waits = subst
           (λ (p : ℕ). IsWaiting
-          (stands (Some (known_by schema)) p (drop (schema.size + count) bytes) stand)) from_0
+          (stands (Some now) p (drop (schema.size + count) bytes) stand)) from_0
           (subst
           (λ (b : List ℕ). IsWaiting
-          (stands (Some (known_by schema)) (schema.size + count) b stand)) at takes.waits);
+          (stands (Some now) (schema.size + count) b stand)) at takes.waits);
     }
+
+pub look-schema : (bytes : List ℕ) (schema : SchemaRead) → first_schema bytes ≡ Ok schema
+    → schema.size ≤ length bytes
+    → (Took : List (List Cell) → Type 0) (newer : Option Known) (count : ℕ) (stand : Stand)
+    → TakesWhole Took (known_by schema) schema.size (drop schema.size bytes) newer count stand
+    → Looks Took None 0 bytes (Some (newest_of (known_by schema) newer)) (schema.size + count) stand
+look-schema bytes schema is inside Took None count stand takes =
+    look-known bytes schema is inside Took (known_by schema) count stand (record {
+      batches = takes.batches;
+      taken = takes.taken;
+      within = takes.within;
+      goes_on = takes.goes_on;
+      waits = takes.waits;
+    })
+look-schema bytes schema is inside Took (Some now) count stand takes =
+    look-known bytes schema is inside Took now count stand takes
 
 -- nothing was taken
 pub with-none : (Took : List (List Cell) → Type 0) → Took [] → (bytes : List ℕ)

@@ -9,15 +9,14 @@ use Rattle.std.proofs.lemmas.List.{drop-drop, drop_all, take_more}
 use Rattle.std.proofs.lemmas.Option.{get_or_from_slice_get, slice_get_within}
 use Rattle.cell_model.specs.declared.cell.Cell.{Cell}
 use Rattle.stream_spec.specs.Checks.{◌>>=◌}
-use Rattle.stream_spec.specs.Streams.{BatchRead, Reading, fault_at, next_batch}
+use Rattle.stream_spec.specs.Streams.{Known, MessageRead, Reading, behind, fault_at, next_message}
 use Rattle.stream_spec.specs.declared.fault.Cause.{Cause}
 use Rattle.stream_spec.specs.declared.fault.Cause.TheVariants as cause
 use Rattle.stream_pieces.specs.declared.stand.Stand.{Stand}
 use Rattle.stream_pieces.specs.declared.stand.Stand.TheVariants as stand
 use Rattle.stream_pieces.specs.Laws.{MessageGoesOn, EndGoesOn, FaultGoesOn}
-use Rattle.stream_pieces.specs.Pieces.{Known, MessageRead, behind, is_waiting, message_of}
-use Rattle.stream_pieces.specs.Pieces.{next_message, read_from, rows_of}
-use Rattle.ipc_read.specs.Looks.{TakesWhole}
+use Rattle.stream_pieces.specs.Pieces.{fault_of, is_waiting, no_more, read_from, rows_of}
+use Rattle.ipc_read.specs.Looks.{TakesWhole, newest_of}
 
 -- So many bytes are done with, of their rows this is so, and behind them this is known.
 pub record Left (Took : List (List Cell) → Type 0) (known : Known) (place : ℕ) (bytes : List ℕ)
@@ -66,28 +65,6 @@ left_next law Took Took' known place bytes now count left message is inside step
       (sym (append_assoc left.batches message.batches rest.batches));
 }
 
--- a batch more
-pub left_batch : (law : MessageGoesOn) (Took Took' : List (List Cell) → Type 0) (known : Known)
-    (place : ℕ) (bytes : List ℕ) (now : Known) (count : ℕ)
-    (left : Left Took known place bytes now count) (batch : BatchRead)
-    → next_batch now.columns (drop count bytes) ≡ Ok (Some batch)
-    → batch.size ≤ length (drop count bytes)
-    → ((rows : List (List Cell)) → Took rows → Took' (rows ++ batch.rows))
-    → Left Took' known place bytes now (count + batch.size)
-left_batch law Took Took' known place bytes now count left batch is inside step =
-    left_next law Took Took' known place bytes now count left (message_of now batch)
-    (ap (λ (read : Result (Option BatchRead) Cause).
-    read >>= λ b. Ok (option_map (message_of now) b)) is) inside
-    (λ rows took. subst (λ (r : List (List Cell)). Took' (rows ++ r)) (sym (append-nil batch.rows))
-    (step rows took))
-
--- what the next batch, the end or a fault makes of what is known
-pub next-is : (known : Known) (bytes : List ℕ) (read : Result (Option BatchRead) Cause)
-    → next_batch known.columns bytes ≡ read
-    → next_message known bytes ≡ (read >>= λ batch. Ok (option_map (message_of known) batch))
-next-is known bytes read is = ap (λ (read : Result (Option BatchRead) Cause).
-    read >>= λ batch. Ok (option_map (message_of known) batch)) is
-
 -- the bytes that are left are some
 some-left : (n : ℕ) (bytes : List ℕ) → n < length bytes
     → (byte : ℕ) × (rest : List ℕ) × (drop n bytes ≡ byte ∷ rest)
@@ -96,13 +73,23 @@ some-left zero (byte ∷ rest) less = (byte, rest, refl)
 some-left (suc n) [] less = absurd (omega (arith, less))
 some-left (suc n) (byte ∷ rest) less = some-left n rest (omega (arith, less))
 
+-- the same of what is known at last
 module _ (Took : List (List Cell) → Type 0) (known : Known) (place : ℕ) (bytes : List ℕ)
-    (count : ℕ) (left : Left Took known place bytes known count) where
+    (count : ℕ) where
   -- all is taken, or the next message is not whole
-  pub left_waits : (drop count bytes ≡ [])
-      ⊎ (next_message known (drop count bytes) ≡ Err cause.Short)
-      → TakesWhole Took known place bytes count stand.Going
-  left_waits waits = record {
+  pub left_waits : (newer : Option Known)
+      → Left Took known place bytes (newest_of known newer) count
+      → (drop count bytes ≡ [])
+      ⊎ (next_message (newest_of known newer) (drop count bytes) ≡ Err cause.Short)
+      → TakesWhole Took known place bytes newer count stand.Going
+  left_waits None left waits = record {
+    batches = left.batches;
+    taken = left.taken;
+    within = left.within;
+    goes_on = left.goes_on;
+    waits = waits;
+  }
+  left_waits (Some more) left waits = record {
     batches = left.batches;
     taken = left.taken;
     within = left.within;
@@ -110,44 +97,76 @@ module _ (Took : List (List Cell) → Type 0) (known : Known) (place : ℕ) (byt
     waits = waits;
   }
 
-  pub left_all : length bytes ≤ count → TakesWhole Took known place bytes count stand.Going
-  left_all all = left_waits (inl (drop_all count bytes all))
+  pub left_all : (newer : Option Known)
+      → Left Took known place bytes (newest_of known newer) count → length bytes ≤ count
+      → TakesWhole Took known place bytes newer count stand.Going
+  left_all newer left all = left_waits newer left (inl (drop_all count bytes all))
 
-  pub left_ends : (law : EndGoesOn) → count < length bytes
-      → next_message known (drop count bytes) ≡ Ok None
-      → TakesWhole Took known place bytes (length bytes) stand.Ended
-  left_ends law less is =
+  -- nothing more is read
+  left_done : (newer : Option Known) (s : Stand)
+      → (left : Left Took known place bytes (newest_of known newer) count)
+      → (s ≡ stand.Going → ⊥)
+      → ((more : List ℕ)
+      → read_from (Some (newest_of known newer)) (place + count) (drop count bytes ++ more)
+      ≡ no_more (Some (newest_of known newer)) (fault_of s))
+      → TakesWhole Took known place bytes newer (length bytes) s
+  left_done newer stand.Going left done ends = absurd (done refl)
+  left_done None stand.Ended left done ends = record {
+    batches = left.batches;
+    taken = left.taken;
+    within = omega arith;
+    goes_on = λ more. left.goes_on more ∙ ap (behind left.batches) (ends more);
+    waits = drop_all (length bytes) bytes (omega arith);
+  }
+  left_done (Some known') stand.Ended left done ends = record {
+    batches = left.batches;
+    taken = left.taken;
+    within = omega arith;
+    goes_on = λ more. left.goes_on more ∙ ap (behind left.batches) (ends more);
+    waits = drop_all (length bytes) bytes (omega arith);
+  }
+  left_done None (stand.Stopped fault) left done ends = record {
+    batches = left.batches;
+    taken = left.taken;
+    within = omega arith;
+    goes_on = λ more. left.goes_on more ∙ ap (behind left.batches) (ends more);
+    waits = drop_all (length bytes) bytes (omega arith);
+  }
+  left_done (Some known') (stand.Stopped fault) left done ends = record {
+    batches = left.batches;
+    taken = left.taken;
+    within = omega arith;
+    goes_on = λ more. left.goes_on more ∙ ap (behind left.batches) (ends more);
+    waits = drop_all (length bytes) bytes (omega arith);
+  }
+
+  pub left_ends : (law : EndGoesOn) (newer : Option Known)
+      → Left Took known place bytes (newest_of known newer) count → count < length bytes
+      → next_message (newest_of known newer) (drop count bytes) ≡ Ok None
+      → TakesWhole Took known place bytes newer (length bytes) stand.Ended
+  left_ends law newer left less is =
+      let now : Known = newest_of known newer in
       let s = some-left count bytes less in
-      let here : next_message known (s.0 ∷ s.1) ≡ Ok None =
-      ap (next_message known) (sym s.2) ∙ is in
-      record {
-        batches = left.batches;
-        taken = left.taken;
-        within = omega arith;
-        goes_on = λ more. left.goes_on more ∙ ap (behind left.batches)
-            (ap (λ (b : List ℕ). read_from (Some known) (place + count) (b ++ more)) s.2
-            ∙ law known (place + count) s.0 s.1 more here);
-        waits = drop_all (length bytes) bytes (omega arith);
-      }
+      let here : next_message now (s.0 ∷ s.1) ≡ Ok None =
+      ap (next_message now) (sym s.2) ∙ is in
+      left_done newer stand.Ended left (λ never. absurd cc)
+      (λ more. ap (λ (b : List ℕ). read_from (Some now) (place + count) (b ++ more)) s.2
+      ∙ law now (place + count) s.0 s.1 more here)
 
-  pub left_fails : (law : FaultGoesOn) (cause : Cause) → count < length bytes
-      → next_message known (drop count bytes) ≡ Err cause
+  pub left_fails : (law : FaultGoesOn) (cause : Cause) (newer : Option Known)
+      → Left Took known place bytes (newest_of known newer) count → count < length bytes
+      → next_message (newest_of known newer) (drop count bytes) ≡ Err cause
       → is_waiting {A = List ℕ} (Err cause) ≡ false
-      → TakesWhole Took known place bytes (length bytes)
+      → TakesWhole Took known place bytes newer (length bytes)
       (stand.Stopped (fault_at (place + count) cause))
-  left_fails law cause less is done =
+  left_fails law cause newer left less is done =
+      let now : Known = newest_of known newer in
       let s = some-left count bytes less in
-      let here : next_message known (s.0 ∷ s.1) ≡ Err cause =
-      ap (next_message known) (sym s.2) ∙ is in
-      record {
-        batches = left.batches;
-        taken = left.taken;
-        within = omega arith;
-        goes_on = λ more. left.goes_on more ∙ ap (behind left.batches)
-            (ap (λ (b : List ℕ). read_from (Some known) (place + count) (b ++ more)) s.2
-            ∙ law known (place + count) s.0 s.1 more cause here done);
-        waits = drop_all (length bytes) bytes (omega arith);
-      }
+      let here : next_message now (s.0 ∷ s.1) ≡ Err cause =
+      ap (next_message now) (sym s.2) ∙ is in
+      left_done newer (stand.Stopped (fault_at (place + count) cause)) left (λ never. absurd cc)
+      (λ more. ap (λ (b : List ℕ). read_from (Some now) (place + count) (b ++ more)) s.2
+      ∙ law now (place + count) s.0 s.1 more cause here done)
 
 -- a row more of those that are taken
 pub row-more : (rows : List (List Cell)) (i : ℕ) (row : List Cell) → slice_get rows i ≡ Some row
@@ -158,8 +177,11 @@ row-more rows i row is =
 
 -- the same in other words
 pub taken-by : (Took : List (List Cell) → Type 0) (known : Known) (place : ℕ) (bytes : List ℕ)
-    (count count' : ℕ) (s s' : Stand) → count' ≡ count → s' ≡ s
-    → TakesWhole Took known place bytes count s → TakesWhole Took known place bytes count' s'
-taken-by Took known place bytes count count' s s' count-is s-is takes =
-    subst (λ (n : ℕ). TakesWhole Took known place bytes n s') (sym count-is)
-    (subst (λ (t : Stand). TakesWhole Took known place bytes count t) (sym s-is) takes)
+    (newer newer' : Option Known) (count count' : ℕ) (s s' : Stand)
+    → newer' ≡ newer → count' ≡ count → s' ≡ s
+    → TakesWhole Took known place bytes newer count s
+    → TakesWhole Took known place bytes newer' count' s'
+taken-by Took known place bytes newer newer' count count' s s' newer-is count-is s-is takes =
+    subst (λ (k : Option Known). TakesWhole Took known place bytes k count' s') (sym newer-is)
+    (subst (λ (n : ℕ). TakesWhole Took known place bytes newer n s') (sym count-is)
+    (subst (λ (t : Stand). TakesWhole Took known place bytes newer count t) (sym s-is) takes))

@@ -1,8 +1,10 @@
 pub mod Batches
 pub mod Faults
+pub mod Fields
 pub mod Frames
 pub mod Layouts
 pub mod Looks
 pub mod Next
 pub mod Offsets
+pub mod Steps
 pub mod Views

@@ -2,8 +2,8 @@
 use Rattle.std.specs.Prelude.{◌≡◌, ◌≤◌, ℕ, ◌+◌, List, [], ◌++◌, length, drop, Option, None, Some}
 use Rattle.cell_model.specs.declared.cell.Cell.{Cell}
 use Rattle.stream_pieces.specs.declared.stand.Stand.{Stand}
-use Rattle.stream_pieces.specs.Pieces.{IsWaiting, Known, Standing, behind, read_from, rows_of}
-use Rattle.stream_pieces.specs.Pieces.{still_read}
+use Rattle.stream_spec.specs.Streams.{Known, behind}
+use Rattle.stream_pieces.specs.Pieces.{IsWaiting, Standing, read_from, rows_of, still_read}
 
 abbrev pub stands : Option Known → ℕ → List ℕ → Stand → Standing
 stands known place begun stand = record {
@@ -17,6 +17,11 @@ stands known place begun stand = record {
 abbrev pub newest : Option Known → Option Known → Option Known
 newest before None = before
 newest before (Some known) = Some known
+
+-- what is known now behind a schema
+abbrev pub newest_of : Known → Option Known → Known
+newest_of before None = before
+newest_of before (Some known) = known
 
 -- In front of what is still read stand batches, of whose rows this is so, and so many bytes are
 -- done with.
@@ -34,8 +39,9 @@ pub record Looks
 
 -- The same behind a schema that was read before.
 abbrev pub TakesWhole
-    : (List (List Cell) → Type 0) → Known → ℕ → List ℕ → ℕ → Stand → Type 0
-TakesWhole Took known place bytes count stand = Looks Took (Some known) place bytes None count stand
+    : (List (List Cell) → Type 0) → Known → ℕ → List ℕ → Option Known → ℕ → Stand → Type 0
+TakesWhole Took known place bytes newer count stand =
+    Looks Took (Some known) place bytes newer count stand
 
 -- There are no rows.
 abbrev pub NoRows : List (List Cell) → Type 0

@@ -3,31 +3,36 @@ ghost use Rattle.std.specs.Prelude.{◌≡◌, ◌+◌, ◌<◌, ◌^◌, ◌==�
 ghost use Rattle.std.specs.Prelude.{Some, length, pos, slice_get};
 ghost use Rattle.std.specs.List.{list_all};
 ghost use Rattle.std.specs.Ordering.{int_eq};
-ghost use Rattle.ipc_read.specs.Batches.{have_room, have_slot, row_in, rows_in};
-ghost use Rattle.ipc_read.specs.Views.{cells_in};
-ghost use Rattle.stream_spec.specs.Columns.{buffer_count, columns_of, rows_of};
+ghost use Rattle.ipc_read.specs.Batches.{has_all, have_room, have_slot, row_in, rows_in};
+ghost use Rattle.ipc_read.specs.Fields.{cells_told};
+ghost use Rattle.stream_spec.specs.Columns.{buffer_count, cells_in, columns_of, rows_of};
+ghost use Rattle.stream_spec.specs.Columns.{values_field, values_in};
 ghost use Rattle.stream_spec.specs.declared.fault.Cause.{Cause as CauseValue};
 
 use crate::faults::NotRead;
-use crate::views::{View, cell_at, column, data_count};
+use crate::fields::{FieldView, cell_of, field_view, stored_values};
+use crate::known::Dictionary;
+use crate::views::data_count;
 use arrow_meta::BatchMeta;
-use cell_model::{Column, Row, Rows};
+use arrow_spec::Field;
+use cell_model::{Bytes, Cell, Column, Kind, Row, Rows};
 use std::alloc::{AllocError, Global};
 use std::marker::Model;
+use std::slice;
 use stream_spec::{BufferPlace, Cause, FieldNode};
 
-/// A record batch whose buffers were checked, lent from the bytes that it is read from.
+/// A record batch whose buffers were checked, lent from the bytes that it is read from and from the
+/// dictionaries that came before it.
 #[derive(Drop)]
 pub struct Batch<'a> {
-    views: Vec<View<'a>>,
+    views: Vec<FieldView<'a>>,
     rows: usize,
     size: u64,
 }
 
 impl<'a> Model for Batch<'a> {
     ghost use Rattle.std.specs.Prelude.{◌≡◌, true};
-    ghost use Rattle.stream_spec.specs.Streams.{BatchRead};
-    ghost use Rattle.ipc_read.specs.Batches.{have_room, rows_in};
+    ghost use Rattle.ipc_read.specs.Batches.{BatchRead, have_room, rows_in};
 
     ghost Value = { BatchRead };
 
@@ -75,7 +80,7 @@ impl<'a> Batch<'a> {
 }
 
 /// So many rows.
-fn rows_of(alloc: Global, views: &[View<'_>], count: usize) -> Result<Rows, AllocError>
+fn rows_of(alloc: Global, views: &[FieldView<'_>], count: usize) -> Result<Rows, AllocError>
     requires { have_room count views.now ≡ true }
     ensures { IfOk result (λ rows. rows ≡ rows_in count views.now) }
 {
@@ -87,24 +92,24 @@ fn rows_of(alloc: Global, views: &[View<'_>], count: usize) -> Result<Rows, Allo
 }
 
 /// The row in a slot.
-fn row_of(alloc: Global, views: &[View<'_>], i: usize) -> Result<Row, AllocError>
+fn row_of(alloc: Global, views: &[FieldView<'_>], i: usize) -> Result<Row, AllocError>
     requires { have_slot i views.now ≡ true }
     ensures { IfOk result (λ row. row ≡ row_in views.now i) }
 {
     let mut cells = Vec::with_capacity(alloc, views.len())?;
     for view in views {
-        cells.push(cell_at(alloc, view, i)?)?;
+        cells.push(cell_of(alloc, view, i)?)?;
     }
     Ok(Row::from(cells))
 }
 
-/// Whether so many buffers are those of the columns.
-fn are_buffers_of(columns: &[Column], count: usize) -> bool
-    ensures { result ≡ (count == buffer_count columns.now) }
+/// Whether so many buffers are those of the fields.
+fn are_buffers_of(fields: &[Field], count: usize) -> bool
+    ensures { result ≡ (count == buffer_count fields.now) }
 {
     let mut left = count;
-    for column in columns {
-        let own = 1 + data_count(&column.kind.values());
+    for field in fields {
+        let own = 1 + data_count(&stored_values(field));
         if left < own {
             return false;
         }
@@ -125,27 +130,36 @@ fn have_slots(nodes: &[FieldNode], rows: u64) -> bool
 /// The columns of a batch of so many rows, each with its node and its buffers; or the first fault.
 fn views_of<'a>(
     alloc: Global,
-    columns: &[Column],
+    dictionaries: &'a [Dictionary],
+    fields: &[Field],
     rows: usize,
     nodes: &[FieldNode],
     buffers: &[BufferPlace],
     body: &'a [u8],
-) -> Result<Vec<View<'a>>, NotRead>
+) -> Result<Vec<FieldView<'a>>, NotRead>
     requires fits { rows < 2 ^ 63 }
-    requires a_node_each { length nodes.now ≡ length columns.now }
-    requires their_buffers { length buffers.now ≡ buffer_count columns.now }
-    ensures ok { IfOk result (λ views. columns_of body.now rows columns.now nodes.now buffers.now
-        ≡ Ok (map (cells_in rows) views.items)) }
+    requires a_node_each { length nodes.now ≡ length fields.now }
+    requires their_buffers { length buffers.now ≡ buffer_count fields.now }
+    ensures ok { IfOk result (λ views. columns_of body.now rows dictionaries.now fields.now nodes.now
+        buffers.now ≡ Ok (map (cells_told rows) views.items)) }
     ensures room { IfOk result (λ views. have_room rows views.items ≡ true) }
+    ensures each { IfOk result (λ views. length views.items ≡ length fields.now) }
     ensures fault { (cause : CauseValue) → IsErrOf result (NotRead.Fault cause)
-        → columns_of body.now rows columns.now nodes.now buffers.now ≡ Err cause }
+        → columns_of body.now rows dictionaries.now fields.now nodes.now buffers.now ≡ Err cause }
 {
-    let mut views = Vec::with_capacity(alloc, columns.len())?;
+    let mut views = Vec::with_capacity(alloc, fields.len())?;
     let mut left = buffers;
-    for (i, declared) in columns.iter().enumerate() {
-        let sort = declared.kind.values();
-        let (own, others) = left.split_at(1 + data_count(&sort));
-        match column(body, &sort, rows, &nodes[i], &own[0], &own[1..]) {
+    for (i, field) in fields.iter().enumerate() {
+        let (own, others) = left.split_at(1 + data_count(&stored_values(field)));
+        match field_view(
+            dictionaries,
+            field,
+            body,
+            rows,
+            &nodes[i],
+            &own[0],
+            &own[1..],
+        ) {
             Ok(view) => views.push(view)?,
             Err(cause) => return Err(NotRead::Fault(cause)),
         }
@@ -154,32 +168,108 @@ fn views_of<'a>(
     Ok(views)
 }
 
-/// The batch of these columns whose metadata and body these are, in a message of so many bytes; or
-/// the first fault: counts and lengths that are not the schema's, and then column by column.
-pub fn batch_of<'a>(
+/// The columns of a batch of these fields whose metadata and body these are; or the first fault:
+/// counts and lengths that are not the fields', and then column by column.
+fn checked_views<'a>(
     alloc: Global,
-    columns: &[Column],
+    dictionaries: &'a [Dictionary],
+    fields: &[Field],
     meta: &BatchMeta,
     body: &'a [u8],
-    size: u64,
-) -> Result<Batch<'a>, NotRead>
+) -> Result<Vec<FieldView<'a>>, NotRead>
     requires { meta.now.rows < 2 ^ 63 }
-    ensures ok { IfOk result (λ batch. rows_of columns.now meta.now body.now ≡ Ok batch.rows) }
-    ensures size { IfOk result (λ batch. batch.size ≡ size) }
+    ensures ok { IfOk result (λ views. cells_in dictionaries.now fields.now meta.now body.now
+        ≡ Ok (map (cells_told meta.now.rows) views.items)) }
+    ensures room { IfOk result (λ views. have_room meta.now.rows views.items ≡ true) }
+    ensures each { IfOk result (λ views. length views.items ≡ length fields.now) }
     ensures fault { (cause : CauseValue) → IsErrOf result (NotRead.Fault cause)
-        → rows_of columns.now meta.now body.now ≡ Err cause }
+        → cells_in dictionaries.now fields.now meta.now body.now ≡ Err cause }
 {
     let (rows, nodes, buffers) = (meta.rows(), meta.nodes(), meta.buffers());
-    if nodes.len() != columns.len() {
+    if nodes.len() != fields.len() {
         return Err(NotRead::Fault(Cause::Shape));
     }
-    if !are_buffers_of(columns, buffers.len()) {
+    if !are_buffers_of(fields, buffers.len()) {
         return Err(NotRead::Fault(Cause::Shape));
     }
     if !have_slots(nodes, rows) {
         return Err(NotRead::Fault(Cause::Shape));
     }
-    let rows = rows as usize;
-    let views = views_of(alloc, columns, rows, nodes, buffers, body)?;
-    Ok(Batch { views, rows, size })
+    views_of(
+        alloc,
+        dictionaries,
+        fields,
+        rows as usize,
+        nodes,
+        buffers,
+        body,
+    )
+}
+
+/// The batch of these fields whose metadata and body these are, in a message of so many bytes; or
+/// the first fault.
+pub fn batch_of<'a>(
+    alloc: Global,
+    dictionaries: &'a [Dictionary],
+    fields: &[Field],
+    meta: &BatchMeta,
+    body: &'a [u8],
+    size: u64,
+) -> Result<Batch<'a>, NotRead>
+    requires { meta.now.rows < 2 ^ 63 }
+    ensures ok { IfOk result (λ batch. rows_of dictionaries.now fields.now meta.now body.now
+        ≡ Ok batch.rows) }
+    ensures size { IfOk result (λ batch. batch.size ≡ size) }
+    ensures fault { (cause : CauseValue) → IsErrOf result (NotRead.Fault cause)
+        → rows_of dictionaries.now fields.now meta.now body.now ≡ Err cause }
+{
+    let views = checked_views(alloc, dictionaries, fields, meta, body)?;
+    Ok(Batch {
+        views,
+        rows: meta.rows() as usize,
+        size,
+    })
+}
+
+/// The values of a dictionary of this kind, whose metadata and body these are; or the first fault.
+pub fn values_in(
+    alloc: Global,
+    kind: Kind,
+    meta: &BatchMeta,
+    body: &[u8],
+) -> Result<Vec<Cell>, NotRead>
+    requires { meta.now.rows < 2 ^ 63 }
+    ensures ok { IfOk result (λ cells. values_in kind meta.now body.now ≡ Ok cells.items) }
+    ensures fault { (cause : CauseValue) → IsErrOf result (NotRead.Fault cause)
+        → values_in kind meta.now body.now ≡ Err cause }
+{
+    let field = values_field(alloc, kind);
+    let views = checked_views(alloc, &[], slice::from_ref(&field), meta, body)?;
+    Ok(cells_of(alloc, &views[0], meta.rows() as usize)?)
+}
+
+/// A field of such values that is not encoded.
+fn values_field(alloc: Global, kind: Kind) -> Field
+    ensures { result ≡ values_field kind }
+{
+    Field {
+        column: Column {
+            name: Bytes::from(Vec::new(alloc)),
+            kind,
+            nullable: true,
+        },
+        encoding: None,
+    }
+}
+
+/// The cells of so many rows.
+fn cells_of(alloc: Global, view: &FieldView<'_>, count: usize) -> Result<Vec<Cell>, AllocError>
+    requires { has_all count view.now ≡ true }
+    ensures { IfOk result (λ cells. cells.items ≡ cells_told count view.now) }
+{
+    let mut cells = Vec::with_capacity(alloc, count)?;
+    for i in 0..count {
+        cells.push(cell_of(alloc, view, i)?)?;
+    }
+    Ok(cells)
 }

@@ -1,7 +1,7 @@
 //! Messages as they are framed (Arrow columnar format, "Encapsulated message format").
 ghost use Rattle.std.specs.Prelude.{◌≡◌, ◌+◌, ◌<◌, ◌≤◌, ◌^◌, IfOk, MatchResult, Ok, Err, length};
 ghost use Rattle.ipc_read.specs.Frames.{Fills, frame_value, metadata_of};
-ghost use Rattle.stream_spec.specs.Streams.{due_head, frame_of, is_of_kind, sized};
+ghost use Rattle.stream_spec.specs.Streams.{due_head, frame_of, is_due, sized};
 
 use crate::faults::cause_of;
 use arrow_meta::read_head;
@@ -70,26 +70,26 @@ pub fn next_frame(first: bool, bytes: &[u8]) -> Result<Frame<'_>, Cause>
     sized_frame(first, LittleEndian::read_u32(&bytes[4..]), &bytes[8..])
 }
 
-/// The head is of this kind.
-fn is_of_kind(due: HeadKind, kind: HeadKind) -> bool
-    ensures { result ≡ is_of_kind due kind }
+/// Whether a message of this kind may stand here: the first is a schema, and no other is.
+fn is_due(first: bool, kind: HeadKind) -> bool
+    ensures { result ≡ is_due first kind }
 {
-    match (due, kind) {
-        (HeadKind::Schema, HeadKind::Schema) | (HeadKind::Batch, HeadKind::Batch) => true,
-        (HeadKind::Schema, HeadKind::Batch) | (HeadKind::Batch, HeadKind::Schema) => false,
+    match kind {
+        HeadKind::Schema => first,
+        HeadKind::Dictionary | HeadKind::Batch => !first,
     }
 }
 
-/// A message's head, of the kind that is due, with its body whole.
-pub fn due_head(due: HeadKind, metadata: &[u8], rest: &[u8]) -> Result<Head, Cause>
-    ensures head { result ≡ due_head due metadata.now rest.now }
+/// A message's head, where it may stand here, with its body whole.
+pub fn due_head(first: bool, metadata: &[u8], rest: &[u8]) -> Result<Head, Cause>
+    ensures head { result ≡ due_head first metadata.now rest.now }
     ensures whole { IfOk result (λ h. h.body ≤ length rest.now) }
 {
     let head = match read_head(metadata) {
         Ok(head) => head,
         Err(fault) => return Err(cause_of(fault)),
     };
-    if !is_of_kind(due, head.kind) {
+    if !is_due(first, head.kind) {
         return Err(Cause::Shape);
     }
     if head.body > rest.len() as u64 {

@@ -3,7 +3,7 @@ ghost use Rattle.std.specs.Prelude.{◌≡◌, ◌+◌, ◌<◌, ◌^◌, ◌++�
 ghost use Rattle.std.specs.Prelude.{Err};
 ghost use Rattle.stream_spec.specs.Streams.{first_schema};
 ghost use Rattle.stream_pieces.specs.Pieces.{tells_end};
-ghost use Rattle.ipc_read.specs.Looks.{Looks, NoRows};
+ghost use Rattle.ipc_read.specs.Looks.{Looks, NoRows, newest_of};
 
 use crate::faults::NotRead;
 use crate::known::Known;
@@ -148,9 +148,13 @@ fn look<T: TakeBatches>(
 {
     match known {
         Some(known) => {
-            let Taken { count, stand } = take_whole(alloc, known, place, bytes, taker)?;
+            let Taken {
+                known,
+                count,
+                stand,
+            } = take_whole(alloc, known, place, bytes, taker)?;
             Ok(Found {
-                known: None,
+                known,
                 count,
                 stand,
             })
@@ -172,17 +176,31 @@ fn look_first<T: TakeBatches>(
     match first_schema(alloc, bytes) {
         Ok(schema) => {
             let size = schema.size();
-            let known = Known::from(schema);
+            let known = Known::of(alloc, schema)?;
             let rest = &bytes[size as usize..];
-            let Taken { count, stand } = take_whole(alloc, &known, size, rest, taker)?;
+            let Taken {
+                known: newer,
+                count,
+                stand,
+            } = take_whole(alloc, &known, size, rest, taker)?;
             Ok(Found {
-                known: Some(known),
+                known: Some(last(known, newer)),
                 count: size as usize + count,
                 stand,
             })
         }
         Err(NotRead::Fault(cause)) => Ok(no_schema(bytes, cause)),
         Err(NotRead::Memory) => Err(AllocError),
+    }
+}
+
+/// What is known at last.
+fn last(known: Known, newer: Option<Known>) -> Known
+    ensures { result ≡ newest_of known newer }
+{
+    match newer {
+        Some(newer) => newer,
+        None => known,
     }
 }
 

@@ -1,16 +1,17 @@
 //! A reader that is fed a stream in pieces.
 ghost use Rattle.std.specs.Prelude.{◌≡◌, ◌+◌, ◌<◌, ◌^◌, [], IfOk, OnErr, MatchResult, None};
 ghost use Rattle.std.specs.Prelude.{Some, length, IsTrue, ◌↔◌};
-ghost use Rattle.std.specs.Option.{option_copied};
+ghost use Rattle.std.specs.Option.{option_copied, option_map};
 ghost use Rattle.ipc_read.specs.Looks.{newest};
 ghost use Rattle.stream_pieces.specs.Pieces.{Feeds, FeedsTo, IsWaiting, end_fault, fault_of};
-ghost use Rattle.stream_pieces.specs.Pieces.{no_more, opening, schema_of, still_read};
+ghost use Rattle.stream_pieces.specs.Pieces.{no_more, opening, still_read};
 ghost use Rattle.stream_pieces.specs.declared.stand.Stand.TheVariants as stand;
 
 use crate::known::Known;
 use crate::looking::{Found, Looked, look_on};
 use crate::taking::TakeBatches;
-use cell_model::{Column, Row, Rows};
+use arrow_spec::Field;
+use cell_model::{Row, Rows};
 use std::alloc::{AllocError, Global};
 use std::marker::Model;
 use stream_pieces::Stand;
@@ -151,12 +152,12 @@ impl Reader {
         }
     }
 
-    /// The columns, once the schema's message has come whole.
-    pub fn schema(&self) -> Option<&[Column]>
-        ensures { option_copied result ≡ schema_of self.now.known }
+    /// The fields, once the schema's message has come whole.
+    pub fn schema(&self) -> Option<&[Field]>
+        ensures { option_copied result ≡ option_map (λ known. known.fields) self.now.known }
     {
         match &self.known {
-            Some(known) => Some(known.columns()),
+            Some(known) => Some(known.fields()),
             None => None,
         }
     }

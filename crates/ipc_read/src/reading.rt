@@ -1,45 +1,48 @@
 //! All that is read of a stream.
-ghost use Rattle.std.specs.Prelude.{◌≡◌, ◌≤◌, IfOk, Ok, length};
-ghost use Rattle.std.specs.Option.{option_copied};
-ghost use Rattle.stream_spec.specs.Streams.{first_schema, reading_of};
+ghost use Rattle.std.specs.Prelude.{◌≡◌, ◌≤◌, IfOk, Ok, Some, length, map};
+ghost use Rattle.std.specs.Option.{option_copied, option_map};
+ghost use Rattle.stream_spec.specs.Streams.{columns_in, first_schema, reading_of};
 
 use crate::faults::NotRead;
-use crate::message::{Next, next_batch};
+use crate::known::Known;
 use crate::schema::{SchemaMessage, first_schema};
-use cell_model::{Column, Rows};
+use crate::steps::{Step, step};
+use arrow_spec::Field;
+use cell_model::{Row, Rows};
 use std::alloc::{AllocError, Global};
 use std::marker::Model;
 use stream_spec::{Cause, StreamFault};
 
-/// What is read of a stream: the columns, where its first message is a schema; the rows of each
-/// batch in front of the first fault; and that fault, if there is one.
-#[derive(Debug, Drop)]
+/// What is read of a stream: what is known behind the schema, where its first message is one; the
+/// rows of each batch in front of the first fault; and that fault, if there is one.
+#[derive(Drop)]
 pub struct Reading {
-    columns: Option<Vec<Column>>,
+    known: Option<Known>,
     batches: Vec<Rows>,
     fault: Option<StreamFault>,
 }
 
 impl Model for Reading {
     ghost use Rattle.std.specs.Option.{option_map};
-    ghost use Rattle.stream_spec.specs.Streams.{Reading as ReadingValue};
+    ghost use Rattle.stream_spec.specs.Streams.{Reading as ReadingValue, columns_in};
 
     ghost Value = { ReadingValue };
 
     ghost view = { λ r. record {
-      schema = option_map (λ columns. columns.items) r.columns;
+      schema = option_map columns_in r.known;
       batches = r.batches.items;
       fault = r.fault;
     } };
 }
 
 impl Reading {
-    /// The columns, lent.
-    pub fn columns(&self) -> Option<&[Column]>
-        ensures { option_copied result ≡ self.now.schema }
+    /// The fields, lent.
+    pub fn fields(&self) -> Option<&[Field]>
+        ensures { option_map (λ fields. map (λ field. field.column) fields) (option_copied result)
+            ≡ self.now.schema }
     {
-        match &self.columns {
-            Some(columns) => Some(columns.as_slice()),
+        match &self.known {
+            Some(known) => Some(known.fields()),
             None => None,
         }
     }
@@ -67,7 +70,7 @@ pub fn read(alloc: Global, bytes: &[u8]) -> Result<Reading, AllocError>
     match first_schema(alloc, bytes) {
         Ok(schema) => with_batches(alloc, schema, bytes),
         Err(NotRead::Fault(cause)) => Ok(Reading {
-            columns: None,
+            known: None,
             batches: Vec::new(alloc),
             fault: Some(StreamFault { place: 0, cause }),
         }),
@@ -82,29 +85,38 @@ fn with_batches(alloc: Global, schema: SchemaMessage, bytes: &[u8]) -> Result<Re
     ensures { IfOk result (λ reading. reading ≡ reading_of bytes.now) }
 {
     let mut place = schema.size();
-    let columns = schema.into_columns();
+    let mut known = Known::of(alloc, schema)?;
     let mut batches = Vec::new(alloc);
     loop {
-        let next = next_batch(alloc, &columns, &bytes[place as usize..])?;
-        match next {
-            Next::Batch(batch) => {
-                batches.push(batch.rows(alloc)?)?;
-                place += batch.size();
+        let mut rows: Vec<Row> = Vec::new(alloc);
+        match step(alloc, &known, &bytes[place as usize..], &mut rows)? {
+            Step::Took(size) => {
+                batches.push(Rows::from(rows))?;
+                place += size;
             }
-            Next::End => {
-                return Ok(Reading {
-                    columns: Some(columns),
-                    batches,
-                    fault: None,
-                });
+            Step::Learned(more, size) => {
+                known = more;
+                place += size;
             }
-            Next::Fault(cause) => {
-                return Ok(Reading {
-                    columns: Some(columns),
-                    batches,
-                    fault: Some(StreamFault { place, cause }),
-                });
+            Step::End => return Ok(ended(known, batches, None)),
+            Step::Fault(cause) => {
+                return Ok(ended(known, batches, Some(StreamFault { place, cause })));
             }
         }
+    }
+}
+
+/// The reading that ends so.
+fn ended(known: Known, batches: Vec<Rows>, fault: Option<StreamFault>) -> Reading
+    ensures { result ≡ record {
+      schema = Some (columns_in known);
+      batches = batches.items;
+      fault = fault;
+    } }
+{
+    Reading {
+        known: Some(known),
+        batches,
+        fault,
     }
 }

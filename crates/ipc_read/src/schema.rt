@@ -6,15 +6,15 @@ ghost use Rattle.stream_spec.specs.declared.fault.Cause.{Cause as CauseValue};
 use crate::faults::NotRead;
 use crate::frames::{Frame, due_head, next_frame};
 use arrow_meta::read_schema;
-use cell_model::Column;
+use arrow_spec::Field;
 use std::alloc::Global;
 use std::marker::Model;
-use stream_spec::{Cause, HeadKind};
+use stream_spec::Cause;
 
-/// A stream's columns, and how many bytes its schema's message has.
+/// A stream's fields, and how many bytes its schema's message has.
 #[derive(Debug, Drop)]
 pub struct SchemaMessage {
-    columns: Vec<Column>,
+    fields: Vec<Field>,
     size: u64,
 }
 
@@ -23,30 +23,30 @@ impl Model for SchemaMessage {
 
     ghost Value = { SchemaRead };
 
-    ghost view = { λ s. record { columns = s.columns.items; size = s.size } };
+    ghost view = { λ s. record { fields = s.fields.items; size = s.size } };
 }
 
 impl SchemaMessage {
-    /// The columns, lent.
-    pub fn columns(&self) -> &[Column]
-        ensures { result.now ≡ self.now.columns }
+    /// The fields, lent.
+    pub fn fields(&self) -> &[Field]
+        ensures { result.now ≡ self.now.fields }
     {
-        self.columns.as_slice()
+        self.fields.as_slice()
     }
 
-    /// How many bytes the message has; the first batch stands behind them.
+    /// How many bytes the message has; the next message stands behind them.
     pub fn size(&self) -> u64
         ensures { result ≡ self.now.size }
     {
         self.size
     }
 
-    /// Gives the columns back.
-    pub fn into_columns(self) -> Vec<Column>
-        ensures { result.items ≡ self.columns }
+    /// Gives the fields back.
+    pub fn into_fields(self) -> Vec<Field>
+        ensures { result.items ≡ self.fields }
     {
-        let SchemaMessage { columns, size: _ } = self;
-        columns
+        let SchemaMessage { fields, size: _ } = self;
+        fields
     }
 }
 
@@ -60,9 +60,9 @@ pub fn first_schema(alloc: Global, bytes: &[u8]) -> Result<SchemaMessage, NotRea
     let Frame::Framed { metadata, rest } = next_frame(true, bytes)? else {
         return Err(NotRead::Fault(Cause::Short));
     };
-    let head = due_head(HeadKind::Schema, metadata, rest)?;
+    let head = due_head(true, metadata, rest)?;
     Ok(SchemaMessage {
-        columns: read_schema(alloc, metadata, head.header)?,
+        fields: read_schema(alloc, metadata, head.header)?,
         size: 8 + metadata.len() as u64 + head.body,
     })
 }

@@ -11,7 +11,7 @@ ghost use Rattle.ipc_read.specs.Views.{IsData, IsView, Lies, cell_in, cells_in, 
 ghost use Rattle.ipc_read.specs.Views.{have_buffers, need_of};
 ghost use Rattle.stream_spec.specs.Columns.{bytes_of, column_of, data_count, has_offsets};
 ghost use Rattle.stream_spec.specs.Columns.{is_buffer, is_text, is_validity, lies_in};
-ghost use Rattle.stream_spec.specs.Columns.{bits_from, null_count_of, value_at};
+ghost use Rattle.stream_spec.specs.Columns.{bits_from, null_count_of, number_in, value_at};
 ghost use Rattle.std.specs.Int.{byte_len, cast_signed};
 ghost use Rattle.cell_model.specs.Widths.{number_width};
 
@@ -212,6 +212,21 @@ pub fn cell_at(alloc: Global, view: &View<'_>, i: usize) -> Result<Cell, AllocEr
         value_at(alloc, view, i)
     } else {
         Ok(Cell::Null)
+    }
+}
+
+/// The integer in a slot, if there is one.
+pub fn number_at(view: &View<'_>, i: usize) -> Option<i128>
+    requires { need_of (values_in view.now.layout) (i + 1) ≤ length view.now.data.now }
+    ensures { result ≡ number_in (cell_in view.now i) }
+{
+    if !is_valid(view.validity, i) {
+        return None;
+    }
+    match view.layout {
+        Layout::Signed(width) => Some(signed_at(width, view.data, i)),
+        Layout::Unsigned(width) => Some(unsigned_at(width, view.data, i)),
+        Layout::Truths | Layout::Texts(_) | Layout::Blobs(_) | Layout::Strips(_) => None,
     }
 }
 

@@ -42,7 +42,7 @@ byte_len_small w64 = omega arith
 byte_len_small w128 = omega arith
 
 -- a buffer with its padding
-padded-short : (buffer : List ℕ) → length (padded buffer) ≤ length buffer + 7
+pub padded-short : (buffer : List ℕ) → length (padded buffer) ≤ length buffer + 7
 padded-short buffer = omega (arith, length-padded buffer)
 
 -- One buffer alone takes at most seven bytes more than it may have.
@@ -59,7 +59,7 @@ numbers-short width cells few =
     omega (arith, length-numbers width cells, product)
 
 -- The validity of at most 2^15 cells has at most 2^13 bytes.
-validity-short : (cells : List Cell) → length cells ≤ 2 ^ 15 → length (validity cells) ≤ 2 ^ 13
+pub validity-short : (cells : List Cell) → length cells ≤ 2 ^ 15 → length (validity cells) ≤ 2 ^ 13
 validity-short cells few =
     elim (validity-long cells) [ inl none ↦ omega arith | inr all ↦ omega arith ]
 
@@ -99,7 +99,7 @@ strips-short bytes cells few width =
     omega arith
 
 -- The data of at most 2^15 cells takes at most 2^36 bytes with padding.
-data-short : (values : Values) (cells : List Cell) → length cells ≤ 2 ^ 15
+pub data-short : (values : Values) (cells : List Cell) → length cells ≤ 2 ^ 15
     → has_width values ≡ true → AllSlots values cells
     → length (flat_map padded (data_buffers (layout_in values) cells)) ≤ 2 ^ 36
 data-short (Signed width) cells few wide slots =

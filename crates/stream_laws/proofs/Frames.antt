@@ -1,7 +1,7 @@
 -- A message is read as its metadata and what follows it; the end word and the end of the input end
 -- the stream.
 use Rattle.std.proofs.Common.{◌≡◌, ℕ, zero, suc, ◌+◌, ◌-◌, ◌^◌, ◌<◌, ◌≤◌, Bool, true, false, List, [], ◌++◌, length, take, drop, replicate, refl, ap, ◌∙◌, arith, append_assoc, length-append, Ok}
-use Rattle.std.specs.Prelude.{nat_lt, nat_le, ◌==◌, Some}
+use Rattle.std.specs.Prelude.{nat_lt, nat_le, Some}
 use Rattle.std.specs.Int.{next_multiple_of}
 use Rattle.std.proofs.lemmas.List.{length-replicate, take_at, drop_at}
 use Rattle.std.proofs.lemmas.Bool.{le-leb, lt-ltb}
@@ -11,8 +11,7 @@ use Rattle.arrow_spec.specs.Metadata.{Header, flatbuffer_of, header_number}
 use Rattle.arrow_spec.specs.Streams.{end_word, message}
 use Rattle.flat_read.specs.Reading.{number_from}
 use Rattle.stream_spec.specs.declared.message.HeadKind.{HeadKind}
-use Rattle.stream_spec.specs.declared.message.HeadKind.TheVariants as kind
-use Rattle.stream_spec.specs.Streams.{ended, framed, sized, frame_of, is_of_kind, due_head}
+use Rattle.stream_spec.specs.Streams.{ended, framed, sized, frame_of, is_due, due_head}
 use Rattle.stream_laws.proofs.Pieces.{has-between}
 use Rattle.stream_spec.specs.Metadata.{kind_of_header}
 use Rattle.stream_laws.proofs.Messages.{HasMessage, header_laid, message-there, head-read}
@@ -82,22 +81,16 @@ padded-message header body_length =
     message-there (padded bytes) header body_length
     (has-between [] bytes (replicate (next_multiple_of (length bytes) 8 - length bytes) 0))
 
--- Each kind of head is its own kind.
-same-kind : (due : HeadKind) → is_of_kind due due ≡ true
-same-kind kind.Schema = refl
-same-kind kind.Batch = refl
-
--- The head that is due is found, where the body is whole.
-pub head-found : (metadata rest : List ℕ) (header : Header) (kind : HeadKind) (body_length : ℕ)
-    → kind_of_header (header_number header) ≡ Some kind
-    → (header_number header == 2) ≡ false
+-- The head of a message that may stand here is found, where the body is whole.
+pub head-found : (metadata rest : List ℕ) (header : Header) (kind : HeadKind) (first : Bool)
+    (body_length : ℕ)
+    → kind_of_header (header_number header) ≡ Some kind → is_due first kind ≡ true
     → HasMessage metadata header body_length
     → 28 ≤ (header_laid header).place → (header_laid header).place < 2 ^ 32 → body_length < 2 ^ 63
     → body_length ≤ length rest
-    → due_head kind metadata rest
+    → due_head first metadata rest
     ≡ Ok (record { kind = kind; header = (header_laid header).place; body = body_length })
-head-found metadata rest header kind body_length is plain has ahead near small whole =
-    let head = head-read metadata header kind body_length is plain has ahead near small in
-    let due : is_of_kind kind kind ≡ true = same-kind kind in
+head-found metadata rest header kind first body_length is due has ahead near small whole =
+    let head = head-read metadata header kind body_length is has ahead near small in
     let enough : nat_le body_length (length rest) ≡ true = le-leb body_length (length rest) whole in
     rw (head, due, enough) refl

@@ -16,3 +16,10 @@ pub mod BodySizes
 pub mod BatchMessages
 pub mod Streams
 pub mod Wholes
+pub mod Stored
+pub mod DictTables
+pub mod DictValues
+pub mod DictFields
+pub mod DictSchemas
+pub mod DictMessages
+pub mod DictStreams

@@ -1,6 +1,6 @@
 -- A message's table reads as the head that it was laid for.
-use Rattle.std.proofs.Common.{◌≡◌, ℕ, ◌+◌, ◌-◌, ◌^◌, ◌<◌, ◌≤◌, true, false, List, [], ◌∷◌, ◌++◌, map, get_or, replicate, refl, ap, ◌∙◌, arith, lit<, Option, Some, None, Result, Ok}
-use Rattle.std.specs.Prelude.{nat_lt, ◌==◌}
+use Rattle.std.proofs.Common.{◌≡◌, ℕ, ◌+◌, ◌-◌, ◌^◌, ◌<◌, ◌≤◌, true, List, [], ◌∷◌, ◌++◌, map, get_or, replicate, refl, ap, ◌∙◌, arith, lit<, Option, Some, None, Result, Ok}
+use Rattle.std.specs.Prelude.{nat_lt}
 use Rattle.std.proofs.lemmas.Bool.{lt-ltb}
 use Rattle.std.specs.Int.{Width, w8, w16, w32, w64, byte_len, to_le_bytes}
 use Rattle.arrow_spec.specs.Flatbuffers.{Laid, Field, number, reference, place_of, aligned, table}
@@ -162,7 +162,6 @@ message-read bytes header body_length has ahead near small =
 -- body is.
 pub head-read : (bytes : List ℕ) (header : Header) (kind : HeadKind) (body_length : ℕ)
     → kind_of_header (header_number header) ≡ Some kind
-    → (header_number header == 2) ≡ false
     → HasMessage bytes header body_length
     → 28 ≤ (header_laid header).place → (header_laid header).place < 2 ^ 32 → body_length < 2 ^ 63
     → head_of bytes ≡ Ok (record {
@@ -170,7 +169,7 @@ pub head-read : (bytes : List ℕ) (header : Header) (kind : HeadKind) (body_len
       header = (header_laid header).place;
       body = body_length;
     })
-head-read bytes header kind body_length is plain has ahead near small =
+head-read bytes header kind body_length is has ahead near small =
     let message = message-read bytes header body_length has ahead near (omega arith) in
     let positive : nat_lt body_length (2 ^ 63) ≡ true = lt-ltb body_length (2 ^ 63) small in
-    rw (message, plain, is, positive) refl
+    rw (message, is, positive) refl

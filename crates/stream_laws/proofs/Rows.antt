@@ -20,7 +20,8 @@ use Rattle.arrow_spec.specs.Batches.{Array, Batch, column_cells, batch_of}
 use Rattle.arrow_spec.specs.Bytes.{padded}
 use Rattle.stream_spec.specs.declared.message.BufferPlace.{BufferPlace}
 use Rattle.stream_spec.specs.declared.message.FieldNode.{FieldNode}
-use Rattle.stream_spec.specs.Columns.{buffer_count, column_of, columns_of, data_count, row_at, rows_of}
+use Rattle.arrow_spec.specs.Fields.{plain_field, plain_fields}
+use Rattle.stream_spec.specs.Columns.{Dictionary, buffer_count, column_of, columns_of, data_count, row_at, rows_of}
 use Rattle.stream_spec.specs.Metadata.{BatchTable}
 use Rattle.stream_laws.proofs.Pieces.{Has}
 use Rattle.stream_laws.proofs.BatchTables.{buffer_of, node_of}
@@ -92,7 +93,7 @@ row-of columns row fits =
 -- ---- columns
 
 -- the cells of the columns, counted from a number on
-abbrev cells_from : ℕ → List Column → List (List Cell) → List (List Cell)
+abbrev pub cells_from : ℕ → List Column → List (List Cell) → List (List Cell)
 cells_from k [] rows = []
 cells_from k (column ∷ columns) rows = column_cells k rows ∷ cells_from (k + 1) columns rows
 
@@ -130,13 +131,15 @@ column-slots k column columns rows all = λ i inside.
     subst P (sym (get_or-map row rows i [] Null (omega arith))) (all i (omega arith)).0
 
 -- The columns of a body are read back as the cells of the rows.
-columns-read : (body : List ℕ) (from k : ℕ) (columns : List Column) (rows : List (List Cell))
+columns-read : (body : List ℕ) (from k : ℕ) (dictionaries : List Dictionary) (columns : List Column)
+    (rows : List (List Cell))
     → length rows ≤ 2 ^ 15 → AllFrom k columns rows
     → HasBuffers body from (buffers_from k columns rows)
-    → columns_of body (length rows) columns (map node_of (nodes_from k columns rows))
+    → columns_of body (length rows) dictionaries (plain_fields columns)
+    (map node_of (nodes_from k columns rows))
     (places from (buffers_from k columns rows)) ≡ Ok (cells_from k columns rows)
-columns-read body from k [] rows few all has = refl
-columns-read body from k (column ∷ columns) rows few all has =
+columns-read body from k dictionaries [] rows few all has = refl
+columns-read body from k dictionaries (column ∷ columns) rows few all has =
     let values : Values = values_of column.kind in
     let cells : List Cell = column_cells k rows in
     let filled : List (List ℕ) = data_buffers (layout_in values) cells in
@@ -168,7 +171,7 @@ columns-read body from k (column ∷ columns) rows few all has =
     subst P long (column-read body from values cells parts.0
     (column-slots k column columns rows all) (omega arith)) in
     let rest =
-    columns-read body next (k + 1) columns rows few (λ i inside. (all i inside).1) parts.1 in
+    columns-read body next (k + 1) dictionaries columns rows few (λ i inside. (all i inside).1) parts.1 in
     rw (front, back, first, rest) refl
 
 -- ---- rows
@@ -188,7 +191,7 @@ row-back k i (column ∷ columns) rows inside long =
     rw (first, rest) (sym parts)
 
 -- The rows are read back slot by slot from the cells of their columns.
-rows-back : (columns : List Column) (rows : List (List Cell))
+pub rows-back : (columns : List Column) (rows : List (List Cell))
     → ((i : ℕ) → i < length rows → length (get_or rows i []) ≡ length columns)
     → map (row_at (cells_from 0 columns rows)) (range_with_len 0 (length rows)) ≡ rows
 rows-back columns rows long =
@@ -212,7 +215,7 @@ length-nodes k columns rows =
 
 -- the buffers of each column
 pub length-buffers : (k : ℕ) (columns : List Column) (rows : List (List Cell))
-    → length (buffers_from k columns rows) ≡ buffer_count columns
+    → length (buffers_from k columns rows) ≡ buffer_count (plain_fields columns)
 length-buffers k [] rows = refl
 length-buffers k (column ∷ columns) rows =
     let cells : List Cell = column_cells k rows in
@@ -257,23 +260,25 @@ pub each-row : (columns : List Column) (rows : List (List Cell)) → All (Fits c
 each-row columns rows fit i inside = row-of columns (get_or rows i []) (fit i [] inside)
 
 -- The rows of a batch are read back from its body.
-pub rows-read : (columns : List Column) (rows : List (List Cell)) → All (Fits columns) rows
-    → length rows ≤ 2 ^ 15
-    → rows_of columns (table_of (batch_of columns rows)) (batch_of columns rows).body ≡ Ok rows
-rows-read columns rows fit few =
+pub rows-read : (dictionaries : List Dictionary) (columns : List Column) (rows : List (List Cell))
+    → All (Fits columns) rows → length rows ≤ 2 ^ 15
+    → rows_of dictionaries (plain_fields columns) (table_of (batch_of columns rows))
+    (batch_of columns rows).body ≡ Ok rows
+rows-read dictionaries columns rows fit few =
     let body : List ℕ = (batch_of columns rows).body in
     let each = each-row columns rows fit in
     let nodes : List FieldNode = map node_of (nodes_from 0 columns rows) in
     let buffers : List BufferPlace = places 0 (buffers_from 0 columns rows) in
-    let one : (length nodes == length columns) ≡ true =
-    eq-eqb (length nodes) (length columns) (length-map (nodes_from 0 columns rows) node_of
-    ∙ length-nodes 0 columns rows) in
-    let two : (length buffers == buffer_count columns) ≡ true =
-    eq-eqb (length buffers) (buffer_count columns)
+    let one : (length nodes == length (plain_fields columns)) ≡ true =
+    eq-eqb (length nodes) (length (plain_fields columns))
+    (length-map (nodes_from 0 columns rows) node_of ∙ length-nodes 0 columns rows
+    ∙ sym (length-map columns plain_field)) in
+    let two : (length buffers == buffer_count (plain_fields columns)) ≡ true =
+    eq-eqb (length buffers) (buffer_count (plain_fields columns))
     (length-places 0 (buffers_from 0 columns rows) ∙ length-buffers 0 columns rows) in
     let three = nodes-even 0 columns rows in
     let has : HasBuffers body 0 (buffers_from 0 columns rows) =
     buffers-there body 0 (buffers_from 0 columns rows) (has-whole body) in
-    let cells = columns-read body 0 0 columns rows few (λ i inside. (each i inside).slots) has in
+    let cells = columns-read body 0 0 dictionaries columns rows few (λ i inside. (each i inside).slots) has in
     let all = rows-back columns rows (λ i inside. (each i inside).long) in
     rw (one, two, three, cells) (ap (λ (found : List (List Cell)). Ok found) all)

@@ -27,10 +27,10 @@ schema_is_read columns rest told =
     message-framed true (flatbuffer_of (schema (plain_fields columns)) 0) [] rest (omega (arith, there.inside))
     small in
     let head =
-    head-found metadata rest (schema (plain_fields columns)) kind.Schema 0 refl refl has
+    head-found metadata rest (schema (plain_fields columns)) kind.Schema true 0 refl refl has
     (omega (arith, table-behind 44 10 (schema_fields columns))) (omega (arith, there.inside))
     (omega arith) (omega arith) in
     let found = schema-read metadata 44 columns small told.some told.named.each laid in
     let size = length-message (flatbuffer_of (schema (plain_fields columns)) 0) [] in
-    let answer : ℕ → Result SchemaRead _ = λ n. Ok (record { columns = columns; size = n }) in
+    let answer : ℕ → Result SchemaRead _ = λ n. Ok (record { fields = plain_fields columns; size = n }) in
     rw (frame, head, found) (ap answer (omega arith))

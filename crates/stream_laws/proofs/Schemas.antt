@@ -1,5 +1,5 @@
 -- A schema's table reads as the columns that it was laid for.
-use Rattle.std.proofs.Common.{◌≡◌, ℕ, ◌+◌, ◌-◌, ◌*◌, ◌^◌, ◌<◌, ◌≤◌, Bool, true, false, List, [], ◌∷◌, length, map, refl, sym, ap, ◌∙◌, subst, arith, lit<, None, Some, Ok, Option, Result}
+use Rattle.std.proofs.Common.{◌≡◌, ℕ, ◌+◌, ◌-◌, ◌*◌, ◌^◌, ◌<◌, ◌≤◌, Bool, true, false, List, [], ◌∷◌, ◌++◌, append_assoc, append-nil, length, map, refl, sym, ap, ◌∙◌, subst, arith, lit<, None, Some, Ok, Option, Result}
 use Rattle.std.specs.Prelude.{not, ◌==◌, nat_le}
 use Rattle.std.specs.Str.{is_utf8}
 use Rattle.std.proofs.lemmas.Str.{is_utf8-from_IsUtf8}
@@ -21,8 +21,9 @@ use Rattle.arrow_spec.specs.declared.types.ArrowType.{ArrowType}
 use Rattle.arrow_spec.specs.declared.types.ArrowType.TheVariants.{SignedInt, UnsignedInt, FixedSizeBinary, Date, Plain}
 use Rattle.flat_read.specs.declared.FlatFault.{FlatFault}
 use Rattle.flat_read.specs.Reading.{field_at, target_at}
-use Rattle.stream_spec.specs.Checks.{◌>>=◌, each_of}
-use Rattle.stream_spec.specs.Metadata.{FieldTable, scalar, target_of, elements, text, int_type, fixed_type, date_type, number_or, type_at, field_table_at, kind_of_type, column_at, columns_at}
+use Rattle.arrow_spec.specs.declared.fields.Field.{Field as SchemaField}
+use Rattle.stream_spec.specs.Checks.{◌>>=◌}
+use Rattle.stream_spec.specs.Metadata.{FieldTable, scalar, target_of, elements, text, int_type, fixed_type, date_type, number_or, type_at, field_table_at, fields_at, fields_behind, kind_of_type, reference as reference_at, schema_field_at}
 use Rattle.stream_laws.proofs.Pieces.{Has}
 use Rattle.stream_laws.proofs.Fields.{FieldsAt}
 use Rattle.stream_laws.proofs.Tables.{IsTableAt, number-read, target-read, table-there, tables-there, vector-read, string-read}
@@ -39,7 +40,7 @@ IsTold (Date unit) = unit < 256 ^ byte_len w16
 IsTold (Plain id) = (id < 256 ^ byte_len w8) × ((id == 2) ≡ false) × ((id == 8) ≡ false) × ((id == 15) ≡ false)
 
 -- The type of each kind is such a one.
-kind-told : (kind : Kind) → has_width (values_of kind) ≡ true → IsTold (type_of kind)
+pub kind-told : (kind : Kind) → has_width (values_of kind) ≡ true → IsTold (type_of kind)
 kind-told kinds.I8 wide = lit< tt
 kind-told kinds.I16 wide = lit< tt
 kind-told kinds.I32 wide = lit< tt
@@ -90,7 +91,7 @@ date-there bytes end unit has =
     table-there bytes end 6 (date_fields unit) (record { apart = refl; fit = refl }) has
 
 -- An Int table with a sign is read back.
-signed-read : (bytes : List ℕ) (end bits : ℕ) → bits < 256 ^ byte_len w32
+pub signed-read : (bytes : List ℕ) (end bits : ℕ) → bits < 256 ^ byte_len w32
     → Has bytes end (int_table bits 1 end).bytes
     → int_type bytes (Some (int_table bits 1 end).place) ≡ Ok (SignedInt bits)
 signed-read bytes end bits small has =
@@ -137,7 +138,7 @@ date-read bytes end unit small has =
     ∙ ap tells (number-read bytes (place + 4) w16 unit small there.laid.0)
 
 -- The table of a type, to which the reference at a place leads, says what the type is.
-type-read : (bytes : List ℕ) (end at : ℕ) (type' : ArrowType) → IsTold type'
+pub type-read : (bytes : List ℕ) (end at : ℕ) (type' : ArrowType) → IsTold type'
     → Has bytes end (table_of_type type' end).bytes
     → target_of bytes (Some at) ≡ Ok (Some (table_of_type type' end).place)
     → type_at bytes (number_of_type type') (Some at) ≡ Ok type'
@@ -160,12 +161,12 @@ type-read bytes end at (Date unit) told has leads =
 type-read bytes end at (Plain id) told has leads = rw (told.1, told.2, told.3) refl
 
 -- where it stands
-record Stands (bytes : List ℕ) (end place : ℕ) : Type 0 where
-  behind : end ≤ place
-  inside : place + 4 ≤ length bytes
+pub record Stands (bytes : List ℕ) (end place : ℕ) : Type 0 where
+  pub behind : end ≤ place
+  pub inside : place + 4 ≤ length bytes
 
 -- The table of a type stands behind the end where it is laid, within the bytes.
-type-stands : (bytes : List ℕ) (end : ℕ) (type' : ArrowType)
+pub type-stands : (bytes : List ℕ) (end : ℕ) (type' : ArrowType)
     → Has bytes end (table_of_type type' end).bytes
     → Stands bytes end (table_of_type type' end).place
 type-stands bytes end (SignedInt bits) has =
@@ -185,7 +186,7 @@ type-stands bytes end (Plain id) has =
     record { behind = table-behind end 4 []; inside = omega (arith, there.inside) }
 
 -- The number of a type fits one byte.
-type-number-small : (type' : ArrowType) → IsTold type' → number_of_type type' < 256 ^ byte_len w8
+pub type-number-small : (type' : ArrowType) → IsTold type' → number_of_type type' < 256 ^ byte_len w8
 type-number-small (SignedInt bits) told = lit< tt
 type-number-small (UnsignedInt bits) told = lit< tt
 type-number-small (FixedSizeBinary bytes) told = lit< tt
@@ -193,7 +194,7 @@ type-number-small (Date unit) told = lit< tt
 type-number-small (Plain id) told = told.0
 
 -- Each kind is found by its type.
-kind-read : (kind : Kind) → has_width (values_of kind) ≡ true
+pub kind-read : (kind : Kind) → has_width (values_of kind) ≡ true
     → kind_of_type (type_of kind) ≡ Some kind
 kind-read kinds.I8 wide = refl
 kind-read kinds.I16 wide = refl
@@ -226,22 +227,22 @@ column_fields column =
     ∷ []
 
 -- A truth value as a number fits one byte.
-bool_small : (truth : Bool) → from_bool truth < 256 ^ byte_len w8
+pub bool_small : (truth : Bool) → from_bool truth < 256 ^ byte_len w8
 bool_small true = lit< tt
 bool_small false = lit< tt
 
 -- A truth value is read back from its number.
-bool_back : (truth : Bool) → not (from_bool truth == 0) ≡ truth
+pub bool_back : (truth : Bool) → not (from_bool truth == 0) ≡ truth
 bool_back true = refl
 bool_back false = refl
 
 -- a column's field, as it is read
-abbrev field_of : Column → ℕ → FieldTable
-field_of column type_at = record {
+abbrev table_of : Column → ℕ → FieldTable
+table_of column type_at = record {
   name = column.name;
   nullable = column.nullable;
   type_place = Some type_at;
-  dictionary = false;
+  encoding = None;
   children = 0;
   type' = type_of column.kind;
 }
@@ -320,9 +321,12 @@ module _ (bytes : List ℕ) (end : ℕ) (column : Column) (small : length bytes 
       vector.word)
 
   -- a column's table reads as the column
-  pub field-table-read : field_table_at bytes place ≡ Ok (field_of column (place + 8))
+  pub field-table-read : field_table_at bytes place ≡ Ok (table_of column (place + 8))
   field-table-read =
-      let dictionary = absent-found bytes end 18 fields there 4 refl in
+      let dictionary : reference_at bytes place 4 ≡ Ok None =
+      let reads : Result (Option ℕ) FlatFault → Result (Option ℕ) FlatFault =
+      λ found. found >>= λ here. target_of bytes here in
+      ap reads (absent-found bytes end 18 fields there 4 refl) in
       let told =
       type-read bytes (type_end column end) (place + 8) (type_of column.kind)
       (kind-told column.kind wide) there.laid.2.1.1.1 type-leads in
@@ -337,10 +341,12 @@ module _ (bytes : List ℕ) (end : ℕ) (column : Column) (small : length bytes 
         bool_back column.nullable,
       ) refl
 
-  -- the column of the reference to the field
-  pub column-read : (here : ℕ) → here ≤ end → is_utf8 column.name ≡ true
-      → Has bytes here (to_le_bytes w32 (place - here)) → column_at bytes here ≡ Ok column
-  column-read here before text' leads =
+  -- the field of the reference to the table, whatever fields stand before it
+  pub field-read : (before : List SchemaField) (here : ℕ) → here ≤ end
+      → is_utf8 column.name ≡ true
+      → Has bytes here (to_le_bytes w32 (place - here))
+      → schema_field_at bytes before here ≡ Ok (plain_field column)
+  field-read before here ahead text' leads =
       let target : target_at bytes here ≡ Ok place =
       target-read bytes here place (omega (arith, table-behind end 18 fields))
       (omega (arith, field-inside)) leads in
@@ -348,24 +354,29 @@ module _ (bytes : List ℕ) (end : ℕ) (column : Column) (small : length bytes 
 
 -- ---- the schema
 
--- the columns of references that stand from a place on, each field behind the ones before
-columns-read : (bytes : List ℕ) (place end from first k : ℕ) (columns : List Column)
+-- the fields of references that stand from a place on, each behind the ones before
+fields-read : (bytes : List ℕ) (place end from first k : ℕ) (before : List SchemaField)
+    (columns : List Column)
     → length bytes < 2 ^ 31 → All IsName columns
     → first + 4 * k ≡ place + from → place + from + 4 * length columns ≤ end
     → FieldsAt bytes place end (references from (map field_table (plain_fields columns)))
-    → each_of (column_at bytes) (map (λ i. first + 4 * i) (range_with_len k (length columns)))
-    ≡ Ok columns
-columns-read bytes place end from first k [] small named here before laid = refl
-columns-read bytes place end from first k (column ∷ columns) small named here before laid =
+    → fields_behind bytes before (map (λ i. first + 4 * i) (range_with_len k (length columns)))
+    ≡ Ok (before ++ plain_fields columns)
+fields-read bytes place end from first k before [] small named here ahead laid =
+    ap (λ (fields : List SchemaField). Ok fields) (sym (append-nil before))
+fields-read bytes place end from first k before (column ∷ columns) small named here ahead laid =
     let name = All-head IsName column columns named in
-    let one : column_at bytes (first + 4 * k) ≡ Ok column =
-    ap (column_at bytes) here
-    ∙ column-read bytes end column small name.1 name.2 laid.1 (place + from) (omega arith)
+    let one : schema_field_at bytes before (first + 4 * k) ≡ Ok (plain_field column) =
+    ap (schema_field_at bytes before) here
+    ∙ field-read bytes end column small name.1 name.2 laid.1 before (place + from) (omega arith)
     (is_utf8-from_IsUtf8 column.name name.0) laid.0 in
-    let rest = columns-read bytes place (end + length (field_table_of column None end).bytes) (from + 4)
-    first (k + 1) columns small (All-tail IsName column columns named)
-    (omega arith) (omega arith) laid.2 in
-    rw (one, rest) refl
+    let rest = fields-read bytes place (end + length (field_table_of column None end).bytes)
+    (from + 4) first (k + 1) (before ++ plain_field column ∷ []) columns small
+    (All-tail IsName column columns named) (omega arith) (omega arith) laid.2 in
+    let all : (before ++ plain_field column ∷ []) ++ plain_fields columns
+    ≡ before ++ plain_fields (column ∷ columns) =
+    append_assoc before (plain_field column ∷ []) (plain_fields columns) in
+    rw one (rest ∙ ap (λ (fields : List SchemaField). Ok fields) all)
 
 -- the fields of a schema: its byte order and its columns
 abbrev pub schema_fields : List Column → List Field
@@ -383,7 +394,7 @@ schema-there bytes end columns has =
 pub schema-read : (bytes : List ℕ) (end : ℕ) (columns : List Column) → length bytes < 2 ^ 31
     → 0 < length columns → All IsName columns
     → Has bytes end (schema_table (plain_fields columns) end).bytes
-    → columns_at bytes (schema_table (plain_fields columns) end).place ≡ Ok columns
+    → fields_at bytes (schema_table (plain_fields columns) end).place ≡ Ok (plain_fields columns)
 schema-read bytes end columns small some named has =
     let fields : List Field = schema_fields columns in
     let there = schema-there bytes end columns has in
@@ -402,10 +413,10 @@ schema-read bytes end columns small some named has =
     (omega (arith, laid.inside)) laid.word) in
     let none : (length tables == 0) ≡ false = ne_eqb (length tables) 0 (λ is. omega arith) in
     let all =
-    columns-read bytes vector (vector + (4 + 4 * length tables)) 4 (vector + 4) 0 columns small
+    fields-read bytes vector (vector + (4 + 4 * length tables)) 4 (vector + 4) 0 [] columns small
     named (omega arith) (omega arith) laid.laid in
     let P : ℕ → Type 0 =
-    λ n. each_of (column_at bytes) (map (λ i. vector + 4 + 4 * i) (range_with_len 0 n))
-    ≡ Ok columns in
+    λ n. fields_behind bytes [] (map (λ i. vector + 4 + 4 * i) (range_with_len 0 n))
+    ≡ Ok (plain_fields columns) in
     let each = subst P (sym count) all in
     rw (endianness, found, none, each) refl

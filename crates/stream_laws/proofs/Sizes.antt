@@ -19,11 +19,11 @@ use Rattle.stream_laws.proofs.Messages.{message_fields}
 use Rattle.stream_laws.proofs.Schemas.{column_fields, int_fields, fixed_fields, date_fields, schema_fields}
 
 -- wherever it is laid, the object adds at most so many bytes
-abbrev AddsAtMost : Object → ℕ → Type 0
+abbrev pub AddsAtMost : Object → ℕ → Type 0
 AddsAtMost object most = (end : ℕ) → length (object end).bytes ≤ most
 
 -- what the references of the fields lead to adds at most so many
-abbrev LeadTo : ℕ → List Field → Type 0
+abbrev pub LeadTo : ℕ → List Field → Type 0
 LeadTo most [] = Unit {0}
 LeadTo most (number at width value ∷ fields) = LeadTo most fields
 LeadTo most (reference at object ∷ fields) =
@@ -58,7 +58,7 @@ laid-short place size most body (absent ∷ fields) test room leads =
     laid-short place size most body fields test room leads
 
 -- a table with its vtable, the gaps, and what it leads to
-table-short : (size most : ℕ) (fields : List Field) → IsTable size fields → LeadTo most fields
+pub table-short : (size most : ℕ) (fields : List Field) → IsTable size fields → LeadTo most fields
     → AddsAtMost (table size fields) (18 + 2 * length fields + size + most)
 table-short size most fields is leads end =
     let vtable : List ℕ = vtable_of size fields in
@@ -85,7 +85,7 @@ table-short size most fields is leads end =
     omega arith
 
 -- A vector adds at most eleven bytes to those of its elements.
-vector-short : (count : ℕ) (elements : List ℕ)
+pub vector-short : (count : ℕ) (elements : List ℕ)
     → AddsAtMost (vector count elements) (11 + length elements)
 vector-short count elements end =
     let zeros : List ℕ = gap end (length_place end) in
@@ -98,14 +98,14 @@ vector-short count elements end =
     omega arith
 
 -- A string adds at most twelve bytes to those of its text.
-string-short : (text : List ℕ) → AddsAtMost (string text) (12 + length text)
+pub string-short : (text : List ℕ) → AddsAtMost (string text) (12 + length text)
 string-short text end =
     let one : length (text ++ 0 ∷ []) ≡ length text + 1 = length-append text (0 ∷ []) in
     let all = vector-short (length text) (text ++ 0 ∷ []) end in
     omega arith
 
 -- A vector of tables adds at most eleven bytes, four for each table, and the tables.
-tables-short : (most : ℕ) (tables : List Object) → LeadTo most (references 4 tables)
+pub tables-short : (most : ℕ) (tables : List Object) → LeadTo most (references 4 tables)
     → AddsAtMost (vector_of_tables tables) (11 + 4 * length tables + most)
 tables-short most tables leads end =
     let place : ℕ = length_place end in
@@ -122,7 +122,7 @@ tables-short most tables leads end =
     omega arith
 
 -- The table of a type adds at most 31 bytes.
-type-short : (type' : ArrowType) → AddsAtMost (table_of_type type') 31
+pub type-short : (type' : ArrowType) → AddsAtMost (table_of_type type') 31
 type-short (SignedInt bits) end =
     table-short 9 0 (int_fields bits 1) (record { apart = refl; fit = refl }) tt end
 type-short (UnsignedInt bits) end =
@@ -137,11 +137,11 @@ type-short (Plain id) end =
     let short = table-short 4 0 [] (record { apart = refl; fit = refl }) tt end in omega arith
 
 -- how many bytes a column's field adds at most, with a name of as many as there may be
-abbrev most_of_field : ℕ
+abbrev pub most_of_field : ℕ
 most_of_field = 65637
 
 -- The field of a column with a short enough name adds at most so many bytes.
-field-short : (column : Column) → length column.name ≤ most_bytes
+pub field-short : (column : Column) → length column.name ≤ most_bytes
     → AddsAtMost (field_table_of column None) most_of_field
 field-short column short end =
     let name : AddsAtMost (string column.name) 65547 =

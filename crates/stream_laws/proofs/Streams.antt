@@ -1,5 +1,5 @@
 -- A stream reads as its columns and its batches.
-use Rattle.std.proofs.Common.{◌≡◌, ℕ, zero, suc, ◌+◌, ◌<◌, ◌≤◌, List, [], ◌∷◌, ◌++◌, length, drop, refl, sym, ap, ◌∙◌, arith, append_assoc, append-nil, length-append, Some, None, Ok}
+use Rattle.std.proofs.Common.{◌≡◌, ℕ, zero, suc, ◌+◌, ◌<◌, ◌≤◌, List, [], ◌∷◌, ◌++◌, length, map, drop, refl, sym, ap, ◌∙◌, arith, append_assoc, append-nil, length-append, Some, None, Ok}
 use Rattle.std.specs.Prelude.{flat_map}
 use Rattle.std.proofs.lemmas.List.{drop_at}
 use Rattle.std.proofs.lemmas.List.Elements.{All-head, All-tail}
@@ -9,8 +9,9 @@ use Rattle.cell_model.specs.declared.column.Column.{Column}
 use Rattle.arrow_spec.specs.Batches.{Batch, batch_of}
 use Rattle.arrow_spec.specs.Metadata.{record_batch, flatbuffer_of}
 use Rattle.arrow_spec.specs.Streams.{batch_message, end_word, schema_message, stream_of}
-use Rattle.stream_spec.specs.Streams.{batches_from, first_schema, next_batch, reading_of}
-use Rattle.stream_laws.specs.Laws.{AreTold, IsBatch, StreamEnds, StreamIsRead}
+use Rattle.arrow_spec.specs.Fields.{plain_fields}
+use Rattle.stream_spec.specs.Streams.{Known, Reading, first_schema, messages_from, next_message, reading_of}
+use Rattle.stream_laws.specs.Laws.{AreTold, IsBatch, StreamEnds, StreamIsRead, knowing}
 use Rattle.stream_laws.proofs.BatchMessages.{batch_is_read}
 use Rattle.stream_laws.proofs.Frames.{end-framed, length-message}
 use Rattle.stream_laws.proofs.SchemaMessages.{schema_is_read}
@@ -41,20 +42,30 @@ batches-few columns (rows ∷ batches) =
     )
 
 -- the end word ends the batches, whatever follows it
-end-read : (columns : List Column) (after : List ℕ)
-    → next_batch columns (end_word ++ after) ≡ Ok None
-end-read columns after = let is = end-framed after in rw is refl
+pub end-read : (known : Known) (after : List ℕ)
+    → next_message known (end_word ++ after) ≡ Ok None
+end-read known after = let is = end-framed after in rw is refl
+
+-- nothing more of these columns
+abbrev ended_with : List Column → Reading
+ended_with columns = record { schema = Some columns; batches = []; fault = None }
+
+-- the columns of fields that are not encoded
+pub columns-back : (columns : List Column) → map (λ field. field.column) (plain_fields columns) ≡ columns
+columns-back [] = refl
+columns-back (column ∷ columns) = ap (λ (c : List Column). column ∷ c) (columns-back columns)
 
 -- the batches from a place on, up to the end word
 batches-read : (more place : ℕ) (columns : List Column) (batches : List (List (List Cell)))
     (after : List ℕ)
     → AreTold columns → All (IsBatch columns) batches → length batches < more
-    → batches_from more columns place (flat_map (batch_message columns) batches
+    → messages_from more (knowing columns []) place (flat_map (batch_message columns) batches
     ++ (end_word ++ after))
     ≡ record { schema = Some columns; batches = batches; fault = None }
 batches-read zero place columns batches after told all few = absurd (omega arith)
 batches-read (suc more) place columns [] after told all few =
-    let is = end-read columns after in rw (is, batches_from) refl
+    let is = end-read (knowing columns []) after in
+    rw (is, messages_from) (ap (λ (c : List Column). ended_with c) (columns-back columns))
 batches-read (suc more) place columns (rows ∷ batches) after told all few =
     let message : List ℕ = batch_message columns rows in
     let rest : List ℕ = flat_map (batch_message columns) batches ++ (end_word ++ after) in
@@ -62,14 +73,14 @@ batches-read (suc more) place columns (rows ∷ batches) after told all few =
     let parts : flat_map (batch_message columns) (rows ∷ batches) ++ (end_word ++ after) ≡ message
     ++ rest =
     append_assoc message (flat_map (batch_message columns) batches) (end_word ++ after) in
-    let one = batch_is_read columns rows rest told is in
+    let one = batch_is_read columns [] rows rest told is in
     let behind : drop (length message) (message ++ rest) ≡ rest =
     drop_at message rest (length message) refl in
     let others =
     batches-read more (place + length message) columns batches after told
     (All-tail (IsBatch columns) rows batches all) (omega arith) in
-    ap (batches_from (suc more) columns place) parts
-    ∙ rw (one, batches_from) (rw (behind, others) refl)
+    ap (messages_from (suc more) (knowing columns []) place) parts
+    ∙ rw (one, messages_from) (rw (behind, others) refl)
 
 -- What follows a stream's end word is not looked at.
 pub stream_ends : StreamEnds
@@ -81,7 +92,7 @@ stream_ends columns batches after told all =
     let parts : bytes ≡ schema ++ rest =
     append_assoc (schema ++ messages) end_word after
     ∙ append_assoc schema messages (end_word ++ after) in
-    let first : first_schema bytes ≡ Ok (record { columns = columns; size = length schema }) =
+    let first : first_schema bytes ≡ Ok (record { fields = plain_fields columns; size = length schema }) =
     ap first_schema parts ∙ schema_is_read columns rest told in
     let behind : drop (length schema) bytes ≡ rest =
     ap (drop (length schema)) parts ∙ drop_at schema rest (length schema) refl in

@@ -8,11 +8,12 @@ use Rattle.std.proofs.lemmas.Bool.{and_parts}
 use Rattle.std.proofs.lemmas.List.Elements.{All-nil, All-cons, All-append}
 use Rattle.cell_model.specs.Kinds.{values_of}
 use Rattle.cell_model.specs.declared.cell.Cell.{Cell}
-use Rattle.cell_model.specs.declared.column.Column.{Column}
+use Rattle.arrow_spec.specs.declared.fields.Field.{Field}
 use Rattle.cell_model.specs.declared.values.Values.{Values}
 use Rattle.cell_model.specs.declared.values.Values.TheVariants.{Signed, Unsigned, Truths, Texts, Blobs, Strips}
 use Rattle.stream_spec.specs.Checks.{◌>>=◌, rule}
-use Rattle.stream_spec.specs.Columns.{are_buffers, bitmap_length, buffer_count, bytes_of, cells_of, column_of, columns_of, data_count, data_needs, has_offsets, is_buffer, is_text, is_validity, lies_in, null_count_of, row_at}
+use Rattle.stream_spec.specs.Columns.{Dictionary, are_buffers, bitmap_length, buffer_count, bytes_of, cells_by, cells_of, column_of, columns_of, data_count, data_needs, field_cells, has_offsets, is_buffer, is_text, is_validity, lies_in, null_count_of, row_at, stored_kind}
+use Rattle.stream_spec.specs.Streams.{known_by}
 use Rattle.stream_spec.specs.declared.fault.Cause.{Cause}
 use Rattle.stream_spec.specs.declared.fault.Cause.TheVariants as cause
 use Rattle.stream_spec.specs.declared.message.BufferPlace.{BufferPlace}
@@ -25,7 +26,7 @@ pub search_is_long_enough : SearchIsLongEnough
 search_is_long_enough bytes schema more is enough =
     let left = length-drop schema.size bytes in
     ap (by bytes) is
-    ∙ any-fuel (length bytes + 1) more schema.columns schema.size (drop schema.size bytes) (omega (arith, left)) (omega (arith, left, enough))
+    ∙ any-fuel (length bytes + 1) more (known_by schema) schema.size (drop schema.size bytes) (omega (arith, left)) (omega (arith, left, enough))
 
 -- Behind its validity a column has as many buffers as needs.
 pub needs_are_counted : NeedsAreCounted
@@ -63,6 +64,12 @@ first (Ok cells) (Ok rest) out is = record { cells = cells; rest = rest; one_is 
 first (Ok cells) (Err fault) out is = absurd (let never : ⊥ = cc in never)
 first (Err fault) more out is = absurd (let never : ⊥ = cc in never)
 
+-- A first step that is read, where the second is.
+stepped : (one : Result (List Cell) Cause) (tell : List Cell → Result (List Cell) Cause) (out : List Cell)
+    → (one >>= tell) ≡ Ok out → (stored : List Cell) × (one ≡ Ok stored)
+stepped (Ok stored) tell out is = (stored, refl)
+stepped (Err fault) tell out is = absurd (let never : ⊥ = cc in never)
+
 -- What is read of a batch.
 record Batch (nodes buffers : Bool) (columns : Result (List (List Cell)) Cause) (count : ℕ) (rows : List (List Cell)) : Type 0 where
   nodes_are : nodes ≡ true
@@ -73,7 +80,7 @@ record Batch (nodes buffers : Bool) (columns : Result (List (List Cell)) Cause) 
 
 -- A batch that is read passed its rules, and its columns are read.
 batch_parts : (a b c : Bool) (columns : Result (List (List Cell)) Cause) (count : ℕ) (rows : List (List Cell))
-    → (rule cause.Shape a >>= λ x. rule cause.Shape b >>= λ y. rule cause.Shape c >>= λ z. columns >>= λ cells. Ok (map (row_at cells) (range_with_len 0 count))) ≡ Ok rows
+    → ((rule cause.Shape a >>= λ x. rule cause.Shape b >>= λ y. rule cause.Shape c >>= λ z. columns) >>= λ cells. Ok (map (row_at cells) (range_with_len 0 count))) ≡ Ok rows
     → Batch a b columns count rows
 batch_parts true true true (Ok cells) count rows is = record { nodes_are = refl; buffers_are = refl; cells = cells; columns_are = refl; rows_are = sym (same_ok (Ok (map (row_at cells) (range_with_len 0 count))) (map (row_at cells) (range_with_len 0 count)) rows refl is) }
 batch_parts true true true (Err fault) count rows is = absurd (let never : ⊥ = cc in never)
@@ -113,20 +120,23 @@ module _ (body : List ℕ) (rows : ℕ) where
       (first_lies.0, each_lies (data_needs values rows) buffers (needs_are_counted values rows ∙ sym count) parts.1)
 
   -- Columns that are read, with a node each and as many buffers as they have, are whole.
-  columns_whole : (columns : List Column) (nodes : List FieldNode) (buffers : List BufferPlace) (out : List (List Cell))
-      → length nodes ≡ length columns → length buffers ≡ buffer_count columns → columns_of body rows columns nodes buffers ≡ Ok out
-      → (length out ≡ length columns) × All Lies buffers
-  columns_whole [] nodes [] out same count is = (ap length (sym (same_ok (Ok []) [] out refl is)), All-nil Lies)
-  columns_whole [] nodes (buffer ∷ buffers) out same count is = absurd (let never : ⊥ = omega (arith, count) in never)
-  columns_whole (column ∷ columns) [] buffers out same count is = absurd (let never : ⊥ = omega (arith, same) in never)
-  columns_whole (column ∷ columns) (node ∷ nodes) [] out same count is = absurd (let never : ⊥ = omega (arith, count) in never)
-  columns_whole (column ∷ columns) (node ∷ nodes) (validity ∷ buffers) out same count is =
-      let many : ℕ = data_count (values_of column.kind) in
-      let parts = first (column_of body rows (values_of column.kind) node.null_count validity (take many buffers)) (columns_of body rows columns nodes (drop many buffers)) out is in
+  columns_whole : (dictionaries : List Dictionary) (fields : List Field) (nodes : List FieldNode) (buffers : List BufferPlace) (out : List (List Cell))
+      → length nodes ≡ length fields → length buffers ≡ buffer_count fields → columns_of body rows dictionaries fields nodes buffers ≡ Ok out
+      → (length out ≡ length fields) × All Lies buffers
+  columns_whole dictionaries [] nodes [] out same count is = (ap length (sym (same_ok (Ok []) [] out refl is)), All-nil Lies)
+  columns_whole dictionaries [] nodes (buffer ∷ buffers) out same count is = absurd (let never : ⊥ = omega (arith, count) in never)
+  columns_whole dictionaries (field ∷ fields) [] buffers out same count is = absurd (let never : ⊥ = omega (arith, same) in never)
+  columns_whole dictionaries (field ∷ fields) (node ∷ nodes) [] out same count is = absurd (let never : ⊥ = omega (arith, count) in never)
+  columns_whole dictionaries (field ∷ fields) (node ∷ nodes) (validity ∷ buffers) out same count is =
+      let values : Values = values_of (stored_kind field) in
+      let many : ℕ = data_count values in
+      let one : Result (List Cell) Cause = column_of body rows values node.null_count validity (take many buffers) in
+      let parts = first (field_cells body rows dictionaries field node.null_count validity (take many buffers)) (columns_of body rows dictionaries fields nodes (drop many buffers)) out is in
+      let stored = stepped one (cells_by field.encoding dictionaries) parts.cells parts.one_is in
       let left = length-drop many buffers in
       let taken = length-take many buffers in
-      let own = column_lies (values_of column.kind) node.null_count validity (take many buffers) parts.cells (omega (arith, taken, count)) parts.one_is in
-      let more = columns_whole columns nodes (drop many buffers) parts.rest (omega (arith, same)) (omega (arith, left, count)) parts.more_is in
+      let own = column_lies values node.null_count validity (take many buffers) stored.0 (omega (arith, taken, count)) stored.1 in
+      let more = columns_whole dictionaries fields nodes (drop many buffers) parts.rest (omega (arith, same)) (omega (arith, left, count)) parts.more_is in
       let out_is = ap length parts.out_is in
       let rest_is = more.0 in (
         omega (arith, out_is, rest_is),
@@ -142,12 +152,12 @@ rows_whole cells many same a (suc n) =
 
 -- A batch that is read is whole.
 pub batches_are_whole : BatchesAreWhole
-batches_are_whole columns batch body rows is =
-    let parts = batch_parts (length batch.nodes == length columns) (length batch.buffers == buffer_count columns)
-    (list_all (λ node. int_eq node.length (pos batch.rows)) batch.nodes) (columns_of body batch.rows columns batch.nodes batch.buffers) batch.rows rows is in
-    let whole = columns_whole body batch.rows columns batch.nodes batch.buffers parts.cells
-    (eqb-true (length batch.nodes) (length columns) parts.nodes_are) (eqb-true (length batch.buffers) (buffer_count columns) parts.buffers_are) parts.columns_are in
+batches_are_whole dictionaries fields batch body rows is =
+    let parts = batch_parts (length batch.nodes == length fields) (length batch.buffers == buffer_count fields)
+    (list_all (λ node. int_eq node.length (pos batch.rows)) batch.nodes) (columns_of body batch.rows dictionaries fields batch.nodes batch.buffers) batch.rows rows is in
+    let whole = columns_whole body batch.rows dictionaries fields batch.nodes batch.buffers parts.cells
+    (eqb-true (length batch.nodes) (length fields) parts.nodes_are) (eqb-true (length batch.buffers) (buffer_count fields) parts.buffers_are) parts.columns_are in
     record {
-      cells = subst (All (λ (row : List Cell). length row ≡ length columns)) (sym parts.rows_are) (rows_whole parts.cells (length columns) whole.0 0 batch.rows);
+      cells = subst (All (λ (row : List Cell). length row ≡ length fields)) (sym parts.rows_are) (rows_whole parts.cells (length fields) whole.0 0 batch.rows);
       buffers = whole.1;
     }

@@ -6,6 +6,7 @@
 ghost use Rattle.stream_laws.specs.Laws.{BatchIsRead, NineRowsAreTold, OneReading, SchemaIsRead};
 ghost use Rattle.stream_laws.specs.Laws.{BatchesAreWhole, NeedsAreCounted, SearchIsLongEnough};
 ghost use Rattle.stream_laws.specs.Laws.{AbsentTypeIsFound, FallingOffsetsAreFound, NineSlotsNeed};
+ghost use Rattle.stream_laws.specs.Laws.{DictSchemaIsRead, DictStreamEnds, DictStreamIsRead};
 ghost use Rattle.stream_laws.specs.Laws.{StreamEnds, StreamIsRead, TablesAreTold};
 
 /// A schema's message, whatever follows it, reads as its columns.
@@ -26,6 +27,22 @@ pub fn a_stream_is_read_back()
 /// What follows a stream's end word is not looked at.
 pub fn a_stream_ends_with_its_end_word()
     ensures { StreamEnds }
+{}
+
+/// The message of a schema whose utf8 and binary columns are encoded, whatever follows it, reads as
+/// its fields.
+pub fn a_schema_by_dictionaries_is_read_back()
+    ensures { DictSchemaIsRead }
+{}
+
+/// A stream by dictionaries reads as its columns and exactly its batches.
+pub fn a_stream_by_dictionaries_is_read_back()
+    ensures { DictStreamIsRead }
+{}
+
+/// What follows the end word of a stream by dictionaries is not looked at.
+pub fn a_stream_by_dictionaries_ends_with_its_end_word()
+    ensures { DictStreamEnds }
 {}
 
 /// The columns of a table are some that a stream can tell.

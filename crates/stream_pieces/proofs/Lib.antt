@@ -1,7 +1,6 @@
 pub mod Stays
 pub mod GoesOn
 pub mod Long
-pub mod Messages
 pub mod SoFar
 pub mod Schemas
 pub mod Over

@@ -8,17 +8,22 @@ use Rattle.std.specs.Ordering.{int_eq}
 use Rattle.std.proofs.lemmas.List.{length-replicate}
 use Rattle.std.proofs.lemmas.Bool.{le-leb, ltb-true, true≢false, not-true, not-false}
 use Rattle.cell_model.specs.Kinds.{values_of}
-use Rattle.cell_model.specs.declared.column.Column.{Column}
+use Rattle.cell_model.specs.declared.cell.Cell.{Cell}
+use Rattle.cell_model.specs.declared.kind.Kind.{Kind}
 use Rattle.cell_model.specs.declared.values.Values.{Values}
 use Rattle.arrow_spec.specs.Streams.{continuation}
+use Rattle.arrow_spec.specs.declared.fields.Encoding.{Encoding}
+use Rattle.arrow_spec.specs.declared.fields.Field.{Field}
 use Rattle.flat_read.specs.Reading.{number_from}
 use Rattle.flat_read.specs.declared.FlatFault.{FlatFault}
 use Rattle.stream_spec.specs.Checks.{◌>>=◌, fault_as, or_fault, rule}
-use Rattle.stream_spec.specs.Columns.{are_buffers, bytes_of, buffer_count, cells_of, column_of}
-use Rattle.stream_spec.specs.Columns.{columns_of, data_count, data_needs, has_offsets, is_text}
-use Rattle.stream_spec.specs.Columns.{is_validity, null_count_of, rows_of}
-use Rattle.stream_spec.specs.Metadata.{BatchTable, batch_at, columns_at, head_of, is_negative}
-use Rattle.stream_spec.specs.Metadata.{kind_of_header, message_table_at}
+use Rattle.stream_spec.specs.Columns.{Dictionary, are_buffers, bytes_of, buffer_count, cells_by}
+use Rattle.stream_spec.specs.Columns.{cells_in, cells_of, column_of, columns_of, data_count, field_cells}
+use Rattle.stream_spec.specs.Columns.{data_needs, has_offsets, is_place_in, is_text, is_validity}
+use Rattle.stream_spec.specs.Columns.{null_count_of, rows_of, stored_kind, values_field, values_in}
+use Rattle.stream_spec.specs.Columns.{values_with}
+use Rattle.stream_spec.specs.Metadata.{BatchTable, batch_at, dictionary_at, fields_at, head_of}
+use Rattle.stream_spec.specs.Metadata.{is_negative, kind_of_header, message_table_at}
 use Rattle.stream_spec.specs.declared.message.BufferPlace.{BufferPlace}
 use Rattle.stream_spec.specs.declared.message.FieldNode.{FieldNode}
 use Rattle.stream_spec.specs.declared.message.Head.{Head}
@@ -29,8 +34,9 @@ use Rattle.stream_spec.specs.declared.fault.Cause.{Cause}
 use Rattle.stream_spec.specs.declared.fault.Cause.TheVariants as cause
 use Rattle.stream_spec.specs.declared.fault.MetaFault.{MetaFault}
 use Rattle.stream_spec.specs.declared.fault.MetaFault.TheVariants as meta
-use Rattle.stream_spec.specs.Streams.{Frame, cause_of, ended, first_schema, frame_of, framed}
-use Rattle.stream_spec.specs.Streams.{framed_batch, framed_schema, is_of_kind, next_batch, sized}
+use Rattle.stream_spec.specs.Streams.{Frame, Known, brought_by, cause_of, ended, first_schema}
+use Rattle.stream_spec.specs.Streams.{frame_of, framed, framed_message, framed_schema, is_due}
+use Rattle.stream_spec.specs.Streams.{kind_with, next_message, sized}
 use Rattle.stream_pieces.specs.Pieces.{is_waiting}
 
 -- ---- what never waits
@@ -86,32 +92,78 @@ column-told body rows values nulls validity buffers =
     (cells_of values (bytes_of body validity) (map (bytes_of body) buffers) rows))) _
     (ruled cause.Utf8 _ refl) (λ d. refl))))
 
-columns-told : (body : List ℕ) (rows : ℕ) (columns : List Column) (nodes : List FieldNode)
-    (buffers : List BufferPlace) → is_waiting (columns_of body rows columns nodes buffers) ≡ false
-columns-told body rows [] nodes buffers = refl
-columns-told body rows (column ∷ columns) [] buffers = refl
-columns-told body rows (column ∷ columns) (node ∷ nodes) [] = refl
-columns-told body rows (column ∷ columns) (node ∷ nodes) (validity ∷ buffers) =
-    bind (column_of body rows (values_of column.kind) node.null_count validity
-    (take (data_count (values_of column.kind)) buffers)) _
-    (column-told body rows (values_of column.kind) node.null_count validity
-    (take (data_count (values_of column.kind)) buffers))
-    (λ cells. bind
-    (columns_of body rows columns nodes (drop (data_count (values_of column.kind)) buffers)) _
-    (columns-told body rows columns nodes (drop (data_count (values_of column.kind)) buffers))
-    (λ rest. refl))
+cells-told : (encoding : Option Encoding) (dictionaries : List Dictionary) (stored : List Cell)
+    → is_waiting (cells_by encoding dictionaries stored) ≡ false
+cells-told None dictionaries stored = refl
+cells-told (Some encoding) dictionaries stored =
+    bind (rule cause.Dictionary
+    (list_all (is_place_in (values_with encoding.id dictionaries)) stored)) _
+    (ruled cause.Dictionary _ refl) (λ inside. refl)
 
-rows-told : (columns : List Column) (batch : BatchTable) (body : List ℕ)
-    → is_waiting (rows_of columns batch body) ≡ false
-rows-told columns batch body =
-    bind (rule cause.Shape (length batch.nodes == length columns)) _ (ruled cause.Shape _ refl)
-    (λ a. bind (rule cause.Shape (length batch.buffers == buffer_count columns)) _
+field-told : (body : List ℕ) (rows : ℕ) (dictionaries : List Dictionary) (field : Field) (nulls : ℤ)
+    (validity : BufferPlace) (buffers : List BufferPlace)
+    → is_waiting (field_cells body rows dictionaries field nulls validity buffers) ≡ false
+field-told body rows dictionaries field nulls validity buffers =
+    bind (column_of body rows (values_of (stored_kind field)) nulls validity buffers) _
+    (column-told body rows (values_of (stored_kind field)) nulls validity buffers)
+    (λ stored. cells-told field.encoding dictionaries stored)
+
+columns-told : (body : List ℕ) (rows : ℕ) (dictionaries : List Dictionary) (fields : List Field)
+    (nodes : List FieldNode) (buffers : List BufferPlace)
+    → is_waiting (columns_of body rows dictionaries fields nodes buffers) ≡ false
+columns-told body rows dictionaries [] nodes buffers = refl
+columns-told body rows dictionaries (field ∷ fields) [] buffers = refl
+columns-told body rows dictionaries (field ∷ fields) (node ∷ nodes) [] = refl
+columns-told body rows dictionaries (field ∷ fields) (node ∷ nodes) (validity ∷ buffers) =
+    let many : ℕ = data_count (values_of (stored_kind field)) in
+    bind (field_cells body rows dictionaries field node.null_count validity (take many buffers)) _
+    (field-told body rows dictionaries field node.null_count validity (take many buffers))
+    (λ cells. bind (columns_of body rows dictionaries fields nodes (drop many buffers)) _
+    (columns-told body rows dictionaries fields nodes (drop many buffers)) (λ rest. refl))
+
+all-cells-told : (dictionaries : List Dictionary) (fields : List Field) (batch : BatchTable)
+    (body : List ℕ) → is_waiting (cells_in dictionaries fields batch body) ≡ false
+all-cells-told dictionaries fields batch body =
+    bind (rule cause.Shape (length batch.nodes == length fields)) _ (ruled cause.Shape _ refl)
+    (λ a. bind (rule cause.Shape (length batch.buffers == buffer_count fields)) _
     (ruled cause.Shape _ refl)
     (λ b. bind
     (rule cause.Shape (list_all (λ node. int_eq node.length (pos batch.rows)) batch.nodes)) _
     (ruled cause.Shape _ refl)
-    (λ c. bind (columns_of body batch.rows columns batch.nodes batch.buffers) _
-    (columns-told body batch.rows columns batch.nodes batch.buffers) (λ cells. refl))))
+    (λ c. columns-told body batch.rows dictionaries fields batch.nodes batch.buffers)))
+
+rows-told : (dictionaries : List Dictionary) (fields : List Field) (batch : BatchTable)
+    (body : List ℕ) → is_waiting (rows_of dictionaries fields batch body) ≡ false
+rows-told dictionaries fields batch body =
+    bind (cells_in dictionaries fields batch body) _
+    (all-cells-told dictionaries fields batch body) (λ cells. refl)
+
+came-told : (kind : Kind) (batch : BatchTable) (body : List ℕ)
+    → is_waiting (values_in kind batch body) ≡ false
+came-told kind batch body =
+    bind (cells_in [] (values_field kind ∷ []) batch body) _
+    (all-cells-told [] (values_field kind ∷ []) batch body) (λ cells. refl)
+
+some-told : {A : Type 0} (c : Cause) (value : Option A) → is_waiting {A = A} (Err c) ≡ false
+    → is_waiting (or_fault c value) ≡ false
+some-told c None is = is
+some-told c (Some value) is = refl
+
+brought-told : (kind : HeadKind) (known : Known) (metadata : List ℕ) (table : ℕ) (body : List ℕ)
+    → is_waiting (brought_by kind known metadata table body) ≡ false
+brought-told kind.Schema known metadata table body = refl
+brought-told kind.Dictionary known metadata table body =
+    bind (fault_as cause_of (dictionary_at metadata table)) _ (told (dictionary_at metadata table))
+    (λ dictionary. bind (or_fault cause.Dictionary (kind_with dictionary.id known.fields)) _
+    (some-told cause.Dictionary (kind_with dictionary.id known.fields) refl)
+    (λ kind. bind (fault_as cause_of (batch_at metadata dictionary.values)) _
+    (told (batch_at metadata dictionary.values))
+    (λ batch. bind (values_in kind batch body) _ (came-told kind batch body)
+    (λ came. refl))))
+brought-told kind.Batch known metadata table body =
+    bind (fault_as cause_of (batch_at metadata table)) _ (told (batch_at metadata table))
+    (λ batch. bind (rows_of known.dictionaries known.fields batch body) _
+    (rows-told known.dictionaries known.fields batch body) (λ rows. refl))
 
 -- ---- heads
 
@@ -119,45 +171,43 @@ abbrev Small : Result Head MetaFault → Type 0
 Small (Ok head) = head.body < 2 ^ 63
 Small (Err fault) = Unit {0}
 
-abbrev head_with : MessageTable → Bool → Bool → Option HeadKind → Option ℕ → Bool
+abbrev head_with : MessageTable → Bool → Option HeadKind → Option ℕ → Bool
     → Result Head MetaFault
-head_with message version dictionary kind header body = do
+head_with message version kind header body = do
   v ← rule meta.Version version
-  d ← rule meta.Dictionary dictionary
   k ← or_fault meta.Kind kind
   h ← or_fault meta.Shape header
   b ← rule meta.Shape body
   Ok (record { kind = k; header = h; body = message.body })
 
-head-small : (message : MessageTable) (version dictionary : Bool) (kind : Option HeadKind)
+head-small : (message : MessageTable) (version : Bool) (kind : Option HeadKind)
     (header : Option ℕ) (body : Bool) → (body ≡ true → message.body < 2 ^ 63)
-    → Small (head_with message version dictionary kind header body)
-head-small message false dictionary kind header body is = tt
-head-small message true false kind header body is = tt
-head-small message true true None header body is = tt
-head-small message true true (Some k) None body is = tt
-head-small message true true (Some k) (Some h) false is = tt
-head-small message true true (Some k) (Some h) true is = is refl
+    → Small (head_with message version kind header body)
+head-small message false kind header body is = tt
+head-small message true None header body is = tt
+head-small message true (Some k) None body is = tt
+head-small message true (Some k) (Some h) false is = tt
+head-small message true (Some k) (Some h) true is = is refl
 
 abbrev head_from : Result MessageTable FlatFault → Result Head MetaFault
 head_from read = fault_as meta.Flat read >>= λ message.
     head_with message (message.version == 3 || message.version == 4)
-    (not (message.header_type == 2)) (kind_of_header message.header_type) message.header
+    (kind_of_header message.header_type) message.header
     (not (is_negative message.body))
 
 from-small : (read : Result MessageTable FlatFault) → Small (head_from read)
 from-small (Err fault) = tt
 from-small (Ok message) =
     head-small message (message.version == 3 || message.version == 4)
-    (not (message.header_type == 2)) (kind_of_header message.header_type) message.header
+    (kind_of_header message.header_type) message.header
     (not (is_negative message.body))
     (λ is. ltb-true message.body (2 ^ 63)
     (not-false (nat_lt message.body (2 ^ 63)) (not-true (is_negative message.body) is)))
 
-abbrev head_by : HeadKind → List ℕ → Result Head MetaFault → Result Head Cause
-head_by due rest read = do
+abbrev head_by : Bool → List ℕ → Result Head MetaFault → Result Head Cause
+head_by first rest read = do
   head ← fault_as cause_of read
-  kind ← rule cause.Shape (is_of_kind due head.kind)
+  due ← rule cause.Shape (is_due first head.kind)
   body ← rule cause.Short (nat_le head.body (length rest))
   Ok head
 
@@ -166,18 +216,18 @@ whole-told : (head : Head) (whole : Bool) → whole ≡ true
 whole-told head true is = refl
 whole-told head false is = absurd (true≢false (sym is))
 
-head-told : (due : HeadKind) (rest : List ℕ) (read : Result Head MetaFault) → 2 ^ 63 ≤ length rest
-    → Small read → is_waiting (head_by due rest read) ≡ false
-head-told due rest (Err (meta.Flat fault)) long small = refl
-head-told due rest (Err meta.Version) long small = refl
-head-told due rest (Err meta.Dictionary) long small = refl
-head-told due rest (Err meta.Kind) long small = refl
-head-told due rest (Err meta.Shape) long small = refl
-head-told due rest (Err meta.Endian) long small = refl
-head-told due rest (Err meta.Utf8) long small = refl
-head-told due rest (Err meta.Compressed) long small = refl
-head-told due rest (Ok head) long small =
-    bind (rule cause.Shape (is_of_kind due head.kind)) _ (ruled cause.Shape _ refl)
+head-told : (first : Bool) (rest : List ℕ) (read : Result Head MetaFault) → 2 ^ 63 ≤ length rest
+    → Small read → is_waiting (head_by first rest read) ≡ false
+head-told first rest (Err (meta.Flat fault)) long small = refl
+head-told first rest (Err meta.Version) long small = refl
+head-told first rest (Err meta.Dictionary) long small = refl
+head-told first rest (Err meta.Kind) long small = refl
+head-told first rest (Err meta.Shape) long small = refl
+head-told first rest (Err meta.Endian) long small = refl
+head-told first rest (Err meta.Utf8) long small = refl
+head-told first rest (Err meta.Compressed) long small = refl
+head-told first rest (Ok head) long small =
+    bind (rule cause.Shape (is_due first head.kind)) _ (ruled cause.Shape _ refl)
     (λ kind. whole-told head (nat_le head.body (length rest))
     (le-leb head.body (length rest) (omega (arith, long, small))))
 
@@ -245,35 +295,33 @@ frame-long first byte bytes long there =
 
 -- ---- messages
 
-batch-told : (columns : List Column) (frame : Result Frame Cause) → Long frame
-    → is_waiting (frame >>= framed_batch columns) ≡ false
-batch-told columns (Ok ended) long = refl
-batch-told columns (Ok (framed metadata rest)) long =
-    bind (head_by kind.Batch rest (head_of metadata)) _
-    (head-told kind.Batch rest (head_of metadata) long (from-small (message_table_at metadata)))
-    (λ head. bind (fault_as cause_of (batch_at metadata head.header)) _
-    (told (batch_at metadata head.header))
-    (λ batch. bind (rows_of columns batch (take head.body rest)) _
-    (rows-told columns batch (take head.body rest)) (λ rows. refl)))
-batch-told columns (Err cause.Short) long = absurd (true≢false long)
-batch-told columns (Err cause.Marker) long = refl
-batch-told columns (Err cause.Flat) long = refl
-batch-told columns (Err cause.Version) long = refl
-batch-told columns (Err cause.Dictionary) long = refl
-batch-told columns (Err cause.Kind) long = refl
-batch-told columns (Err cause.Shape) long = refl
-batch-told columns (Err cause.Endian) long = refl
-batch-told columns (Err cause.Utf8) long = refl
-batch-told columns (Err cause.Compressed) long = refl
-batch-told columns (Err cause.Buffer) long = refl
-batch-told columns (Err cause.NullCount) long = refl
-batch-told columns (Err cause.Offsets) long = refl
+message-told : (known : Known) (frame : Result Frame Cause) → Long frame
+    → is_waiting (frame >>= framed_message known) ≡ false
+message-told known (Ok ended) long = refl
+message-told known (Ok (framed metadata rest)) long =
+    bind (head_by false rest (head_of metadata)) _
+    (head-told false rest (head_of metadata) long (from-small (message_table_at metadata)))
+    (λ head. bind (brought_by head.kind known metadata head.header (take head.body rest)) _
+    (brought-told head.kind known metadata head.header (take head.body rest)) (λ brought. refl))
+message-told known (Err cause.Short) long = absurd (true≢false long)
+message-told known (Err cause.Marker) long = refl
+message-told known (Err cause.Flat) long = refl
+message-told known (Err cause.Version) long = refl
+message-told known (Err cause.Dictionary) long = refl
+message-told known (Err cause.Kind) long = refl
+message-told known (Err cause.Shape) long = refl
+message-told known (Err cause.Endian) long = refl
+message-told known (Err cause.Utf8) long = refl
+message-told known (Err cause.Compressed) long = refl
+message-told known (Err cause.Buffer) long = refl
+message-told known (Err cause.NullCount) long = refl
+message-told known (Err cause.Offsets) long = refl
 
--- Enough bytes are a batch, an end or a fault.
-pub batch-decided : (columns : List Column) (byte : ℕ) (bytes : List ℕ)
-    → 2 ^ 64 ≤ length (byte ∷ bytes) → is_waiting (next_batch columns (byte ∷ bytes)) ≡ false
-batch-decided columns byte bytes long =
-    batch-told columns (frame_of false (byte ∷ bytes))
+-- Enough bytes are a message, an end or a fault.
+pub message-decided : (known : Known) (byte : ℕ) (bytes : List ℕ)
+    → 2 ^ 64 ≤ length (byte ∷ bytes) → is_waiting (next_message known (byte ∷ bytes)) ≡ false
+message-decided known byte bytes long =
+    message-told known (frame_of false (byte ∷ bytes))
     (frame-long false byte bytes long
     (sized-long (number_from (byte ∷ bytes) 4 4) (drop 8 (byte ∷ bytes))
     (omega (arith, long, length-drop 8 (byte ∷ bytes)))))
@@ -287,11 +335,11 @@ length-zeros = length-replicate {A = ℕ} (2 ^ 64) 0
 
 -- What is short at the end of the input is not decided: there are bytes behind which it is something
 -- else.
-pub short-is-open : (columns : List Column) (byte : ℕ) (bytes : List ℕ) → (more : List ℕ)
-    × (is_waiting (next_batch columns ((byte ∷ bytes) ++ more)) ≡ false)
-short-is-open columns byte bytes = (
+pub short-is-open : (known : Known) (byte : ℕ) (bytes : List ℕ) → (more : List ℕ)
+    × (is_waiting (next_message known ((byte ∷ bytes) ++ more)) ≡ false)
+short-is-open known byte bytes = (
   zeros,
-  batch-decided columns byte (bytes
+  message-decided known byte (bytes
       ++ zeros) (omega (arith, length-append (byte ∷ bytes) zeros, length-zeros)),
 )
 
@@ -301,11 +349,11 @@ first-told : (frame : Result Frame Cause) → Long frame → (frame ≡ Ok ended
     → is_waiting (frame >>= framed_schema) ≡ false
 first-told (Ok ended) long some = absurd (some refl)
 first-told (Ok (framed metadata rest)) long some =
-    bind (head_by kind.Schema rest (head_of metadata)) _
-    (head-told kind.Schema rest (head_of metadata) long
+    bind (head_by true rest (head_of metadata)) _
+    (head-told true rest (head_of metadata) long
     (from-small (message_table_at metadata)))
-    (λ head. bind (fault_as cause_of (columns_at metadata head.header)) _
-    (told (columns_at metadata head.header)) (λ columns. refl))
+    (λ head. bind (fault_as cause_of (fields_at metadata head.header)) _
+    (told (fields_at metadata head.header)) (λ fields. refl))
 first-told (Err cause.Short) long some = absurd (true≢false long)
 first-told (Err cause.Marker) long some = refl
 first-told (Err cause.Flat) long some = refl

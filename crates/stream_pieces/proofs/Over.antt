@@ -1,5 +1,5 @@
 -- Where a reading is over, and where it is not.
-use Rattle.std.proofs.Common.{◌≡◌, ℕ, ◌+◌, ◌^◌, ◌<◌, ◌≤◌, Bool, true, false, List}
+use Rattle.std.proofs.Common.{subst, ◌≡◌, ℕ, zero, suc, ◌+◌, ◌^◌, ◌<◌, ◌≤◌, Bool, true, false, List}
 use Rattle.std.proofs.Common.{[]}
 use Rattle.std.proofs.Common.{◌∷◌, ◌++◌, length, drop, refl, sym, ap, ◌∙◌, arith}
 use Rattle.std.proofs.Common.{append-nil, length-append, Option, Some, None, Result, Ok, Err}
@@ -10,19 +10,20 @@ use Rattle.std.proofs.lemmas.List.{append_cancel_left}
 use Rattle.cell_model.specs.declared.cell.Cell.{Cell}
 use Rattle.cell_model.specs.declared.column.Column.{Column}
 use Rattle.flat_read.specs.Reading.{number_from}
-use Rattle.stream_spec.specs.Streams.{BatchRead, Reading, SchemaRead, fault_at}
-use Rattle.stream_spec.specs.Streams.{first_schema, next_batch, reading_of}
+use Rattle.stream_spec.specs.Streams.{Known, MessageRead, Reading, SchemaRead, behind, fault_at}
+use Rattle.stream_spec.specs.Streams.{first_schema, known_by, messages_from, next_message}
+use Rattle.stream_spec.specs.Streams.{reading_of}
 use Rattle.stream_spec.specs.declared.fault.Cause.{Cause}
 use Rattle.stream_spec.specs.declared.fault.Cause.TheVariants as cause
 use Rattle.stream_spec.specs.declared.fault.StreamFault.{StreamFault}
 use Rattle.stream_pieces.specs.declared.stand.Stand.{Stand}
 use Rattle.stream_pieces.specs.declared.stand.Stand.TheVariants as stand
-use Rattle.stream_pieces.specs.Pieces.{IsOver, IsWaiting, Known, ReadSoFar, Standing, Waits}
+use Rattle.stream_pieces.specs.Pieces.{IsOver, IsWaiting, ReadSoFar, Standing, Waits}
 use Rattle.stream_pieces.specs.Pieces.{WaitsFor}
-use Rattle.stream_pieces.specs.Pieces.{behind, end_fault, is_waiting, no_more}
+use Rattle.stream_pieces.specs.Pieces.{end_fault, is_waiting, no_more}
 use Rattle.stream_pieces.specs.Pieces.{read_from}
 use Rattle.stream_pieces.specs.Pieces.{still_read, tells_end}
-use Rattle.stream_pieces.proofs.Stays.{number-stays}
+use Rattle.stream_pieces.proofs.Stays.{Inside, message-inside, number-stays}
 use Rattle.stream_pieces.proofs.GoesOn.{after, by, by-next, other-type}
 use Rattle.stream_pieces.proofs.Long.{length-zeros, schema-decided, short-is-open, zeros}
 use Rattle.stream_pieces.proofs.Schemas.{schema-kept}
@@ -109,19 +110,53 @@ schema-apart bytes place (Err cause) settled is =
     true≢false (sym (ap (λ (r : Reading). is_early r.fault) is)
     ∙ other-type SchemaRead (List ℕ) cause settled)
 schema-apart bytes place (Ok schema) settled is =
-    let kept = schema-kept (length bytes + 1) schema.columns schema.size (drop schema.size bytes) in
+    let kept = schema-kept (length bytes + 1) (known_by schema) schema.size (drop schema.size bytes) in
     absurd (cc (kept, ap (λ (r : Reading). r.schema) is))
 
-batch-apart : (more : ℕ) (columns : List Column) (place : ℕ) (bytes : List ℕ)
-    (read : Result (Option BatchRead) Cause) (known : Option Known) → is_waiting read ≡ false
-    → after more columns place bytes read ≡ no_more known (Some (fault_at place cause.Short)) → ⊥
-batch-apart more columns place bytes (Err cause) known settled is =
+-- a fault, if there is one, is at this place or behind it
+abbrev IsBehind : ℕ → Option StreamFault → Type 0
+IsBehind place None = Unit {0}
+IsBehind place (Some fault) = place ≤ fault.place
+
+further : (place more : ℕ) (fault : Option StreamFault) → IsBehind (place + more) fault
+    → IsBehind place fault
+further place more None is = tt
+further place more (Some fault) is = omega (arith, is)
+
+after-behind : (more : ℕ) (known : Known) (place : ℕ) (bytes : List ℕ)
+    (read : Result (Option MessageRead) Cause)
+    → ((k : Known) (place : ℕ) (rest : List ℕ)
+    → IsBehind place (messages_from more k place rest).fault)
+    → IsBehind place (after more known place bytes read).fault
+after-behind more known place bytes (Err cause) each = omega arith
+after-behind more known place bytes (Ok None) each = tt
+after-behind more known place bytes (Ok (Some message)) each =
+    further place message.size
+    (messages_from more message.known (place + message.size) (drop message.size bytes)).fault
+    (each message.known (place + message.size) (drop message.size bytes))
+
+-- the fault of the messages from a place on is there or behind it
+faults-behind : (more : ℕ) (known : Known) (place : ℕ) (bytes : List ℕ)
+    → IsBehind place (messages_from more known place bytes).fault
+faults-behind zero known place bytes = tt
+faults-behind (suc more) known place bytes =
+    after-behind more known place bytes (next_message known bytes)
+    (λ k p rest. faults-behind more k p rest)
+
+message-apart : (more : ℕ) (known : Known) (place : ℕ) (bytes : List ℕ)
+    (read : Result (Option MessageRead) Cause) (before : Option Known) → is_waiting read ≡ false
+    → Inside (length bytes) read
+    → after more known place bytes read ≡ no_more before (Some (fault_at place cause.Short)) → ⊥
+message-apart more known place bytes (Err cause) before settled inside is =
     true≢false (sym (ap (λ (r : Reading). is_early r.fault) is)
-    ∙ other-type (Option BatchRead) (List ℕ) cause settled)
-batch-apart more columns place bytes (Ok None) known settled is =
+    ∙ other-type (Option MessageRead) (List ℕ) cause settled)
+message-apart more known place bytes (Ok None) before settled inside is =
     absurd (cc (ap (λ (r : Reading). r.fault) is))
-batch-apart more columns place bytes (Ok (Some batch)) known settled is =
-    absurd (cc (ap (λ (r : Reading). r.batches) is))
+message-apart more known place bytes (Ok (Some message)) before settled inside is =
+    let later : IsBehind (place + message.size) (Some (fault_at place cause.Short)) =
+    subst (IsBehind (place + message.size)) (ap (λ (r : Reading). r.fault) is)
+    (faults-behind more message.known (place + message.size) (drop message.size bytes)) in
+    absurd (omega (arith, later, inside.0))
 
 -- what may come so that something else is read than where the input ends here
 abbrev Opens : Option Known → ℕ → List ℕ → Type 0
@@ -144,12 +179,12 @@ later-opens known place [] waits = (
 )
 later-opens known place (byte ∷ bytes) (inl none) = absurd cc
 later-opens known place (byte ∷ bytes) (inr short) =
-    let more = short-is-open known.columns byte bytes in
+    let more = short-is-open known byte bytes in
     let all : List ℕ = (byte ∷ bytes) ++ more.0 in (
       more.0,
-      λ is. batch-apart (length all + 1) known.columns place all (next_batch known.columns all)
-          (Some known) more.1
-          (sym (by-next known.columns place all (next_batch known.columns all) refl) ∙ is),
+      λ is. message-apart (length all + 1) known place all (next_message known all)
+          (Some known) more.1 (message-inside known all)
+          (sym (by-next known place all (next_message known all) refl) ∙ is),
     )
 
 opens : (known : Option Known) (place : ℕ) (begun : List ℕ) → WaitsFor known place begun

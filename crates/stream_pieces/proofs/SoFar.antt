@@ -5,17 +5,16 @@ use Rattle.std.proofs.Common.{inl, inr}
 use Rattle.std.proofs.Common.{◌⊎◌, Err}
 use Rattle.std.proofs.lemmas.Grind.{flat_map-append}
 use Rattle.cell_model.specs.declared.cell.Cell.{Cell}
-use Rattle.stream_spec.specs.Streams.{Reading, fault_at, first_schema, next_batch}
-use Rattle.stream_spec.specs.Streams.{reading_of}
+use Rattle.stream_spec.specs.Streams.{Known, Reading, behind, fault_at, first_schema}
+use Rattle.stream_spec.specs.Streams.{next_message, reading_of}
 use Rattle.stream_spec.specs.declared.fault.Cause.TheVariants as cause
 use Rattle.stream_spec.specs.declared.fault.StreamFault.{StreamFault}
 use Rattle.stream_pieces.specs.declared.stand.Stand.{Stand}
 use Rattle.stream_pieces.specs.declared.stand.Stand.TheVariants as stand
-use Rattle.stream_pieces.specs.Pieces.{Feeds, IsReadingOf, IsWaiting, Known, ReadSoFar, Standing}
-use Rattle.stream_pieces.specs.Pieces.{behind, next_message, opening, read_from, rows_of, schema_of}
+use Rattle.stream_pieces.specs.Pieces.{Feeds, IsReadingOf, IsWaiting, ReadSoFar, Standing}
+use Rattle.stream_pieces.specs.Pieces.{opening, read_from, rows_of, schema_of}
 use Rattle.stream_pieces.specs.Pieces.{still_read, Waits, WaitsFor, end_fault, no_more}
 use Rattle.stream_pieces.proofs.GoesOn.{by, by-next}
-use Rattle.stream_pieces.proofs.Messages.{a-fault}
 
 pub nothing-so-far : ReadSoFar [] opening []
 nothing-so-far = record {
@@ -52,10 +51,9 @@ end-behind : (known : Known) (place : ℕ) (begun : List ℕ)
 end-behind known place [] waits = refl
 end-behind known place (byte ∷ bytes) (inl none) = absurd cc
 end-behind known place (byte ∷ bytes) (inr short) =
-    let is : next_batch known.columns ((byte ∷ bytes) ++ []) ≡ Err cause.Short =
-    ap (next_batch known.columns) (append-nil (byte ∷ bytes))
-    ∙ a-fault known (next_batch known.columns (byte ∷ bytes)) cause.Short short in
-    by-next known.columns place ((byte ∷ bytes) ++ []) (Err cause.Short) is
+    let is : next_message known ((byte ∷ bytes) ++ []) ≡ Err cause.Short =
+    ap (next_message known) (append-nil (byte ∷ bytes)) ∙ short in
+    by-next known place ((byte ∷ bytes) ++ []) (Err cause.Short) is
 
 end-from : (known : Option Known) (place : ℕ) (begun : List ℕ) → WaitsFor known place begun
     → read_from known place (begun ++ []) ≡ no_more known (end_fault stand.Going known place begun)

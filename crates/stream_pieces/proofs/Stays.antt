@@ -6,22 +6,18 @@ use Rattle.std.specs.Prelude.{nat_lt, nat_le, bytes_eq, ◌==◌}
 use Rattle.std.proofs.lemmas.List.{take-append-le, drop-append-le, length-take-le}
 use Rattle.std.proofs.lemmas.Bool.{le-leb, leb-true, true≢false, and_parts, eqb-true}
 use Rattle.byteorder.specs.Numbers.{little_from-append}
-use Rattle.cell_model.specs.declared.cell.Cell.{Cell}
-use Rattle.cell_model.specs.declared.column.Column.{Column}
+use Rattle.arrow_spec.specs.declared.fields.Field.{Field}
 use Rattle.arrow_spec.specs.Streams.{continuation}
 use Rattle.flat_read.specs.Reading.{number_from}
 use Rattle.stream_spec.specs.Checks.{◌>>=◌, fault_as, rule}
-use Rattle.stream_spec.specs.Columns.{rows_of}
-use Rattle.stream_spec.specs.Metadata.{BatchTable, batch_at, columns_at, head_of}
+use Rattle.stream_spec.specs.Metadata.{fields_at, head_of}
 use Rattle.stream_spec.specs.declared.message.Head.{Head}
-use Rattle.stream_spec.specs.declared.message.HeadKind.{HeadKind}
-use Rattle.stream_spec.specs.declared.message.HeadKind.TheVariants as kind
 use Rattle.stream_spec.specs.declared.fault.Cause.{Cause}
 use Rattle.stream_spec.specs.declared.fault.Cause.TheVariants as cause
 use Rattle.stream_spec.specs.declared.fault.MetaFault.{MetaFault}
-use Rattle.stream_spec.specs.Streams.{BatchRead, Frame, SchemaRead, cause_of, ended, first_schema}
-use Rattle.stream_spec.specs.Streams.{frame_of, framed, framed_batch, framed_schema, is_of_kind}
-use Rattle.stream_spec.specs.Streams.{next_batch, sized}
+use Rattle.stream_spec.specs.Streams.{Brought, Frame, Known, MessageRead, SchemaRead, brought_by}
+use Rattle.stream_spec.specs.Streams.{cause_of, ended, first_schema, frame_of, framed}
+use Rattle.stream_spec.specs.Streams.{framed_message, framed_schema, is_due, next_message, sized}
 use Rattle.stream_pieces.specs.Pieces.{is_waiting, tells_end}
 
 -- ---- numbers and pieces of longer bytes
@@ -179,10 +175,10 @@ body_by head due whole = do
   body ← rule cause.Short whole
   Ok head
 
-abbrev head_by : HeadKind → List ℕ → Result Head MetaFault → Result Head Cause
-head_by due rest read = do
+abbrev head_by : Bool → List ℕ → Result Head MetaFault → Result Head Cause
+head_by first rest read = do
   head ← fault_as cause_of read
-  body_by head (is_of_kind due head.kind) (nat_le head.body (length rest))
+  body_by head (is_due first head.kind) (nat_le head.body (length rest))
 
 body-stays : (head : Head) (due whole whole' : Bool) → (whole ≡ true → whole' ≡ true)
     → is_waiting (body_by head due whole) ≡ false → body_by head due whole' ≡ body_by head due whole
@@ -190,12 +186,12 @@ body-stays head false whole whole' same is = refl
 body-stays head true false whole' same is = absurd (true≢false is)
 body-stays head true true whole' same is = rw (same refl) refl
 
-head-stays : (due : HeadKind) (rest more : List ℕ) (read : Result Head MetaFault)
-    → is_waiting (head_by due rest read) ≡ false → head_by due (rest ++ more) read
-    ≡ head_by due rest read
-head-stays due rest more (Err fault) is = refl
-head-stays due rest more (Ok head) is =
-    body-stays head (is_of_kind due head.kind) (nat_le head.body (length rest))
+head-stays : (first : Bool) (rest more : List ℕ) (read : Result Head MetaFault)
+    → is_waiting (head_by first rest read) ≡ false → head_by first (rest ++ more) read
+    ≡ head_by first rest read
+head-stays first rest more (Err fault) is = refl
+head-stays first rest more (Ok head) is =
+    body-stays head (is_due first head.kind) (nat_le head.body (length rest))
     (nat_le head.body (length (rest ++ more))) (longer head.body rest more) is
 
 abbrev Within : ℕ → Result Head Cause → Type 0
@@ -208,30 +204,37 @@ body-within head false whole n is = tt
 body-within head true false n is = tt
 body-within head true true n is = is refl
 
-head-within : (due : HeadKind) (rest : List ℕ) (read : Result Head MetaFault)
-    → Within (length rest) (head_by due rest read)
-head-within due rest (Err fault) = tt
-head-within due rest (Ok head) = body-within head (is_of_kind due head.kind)
+head-within : (first : Bool) (rest : List ℕ) (read : Result Head MetaFault)
+    → Within (length rest) (head_by first rest read)
+head-within first rest (Err fault) = tt
+head-within first rest (Ok head) = body-within head (is_due first head.kind)
     (nat_le head.body (length rest)) (length rest) (leb-true head.body (length rest))
 
--- ---- batches
+-- ---- later messages
 
-abbrev batch_by : List Column → List ℕ → List ℕ → Result Head Cause
-    → Result (Option BatchRead) Cause
-batch_by columns metadata rest read = do
+-- what is made of what a message brings
+abbrev message_of_size : ℕ → Result Brought Cause → Result (Option MessageRead) Cause
+message_of_size size read = do
+  brought ← read
+  Ok (Some (record { batches = brought.batches; known = brought.known; size = size }))
+
+abbrev message_by : Known → List ℕ → List ℕ → Result Head Cause → Result (Option MessageRead) Cause
+message_by known metadata rest read = do
   head ← read
-  batch ← fault_as cause_of (batch_at metadata head.header)
-  rows ← rows_of columns batch (take head.body rest)
-  Ok (Some (record { rows = rows; size = 8 + length metadata + head.body }))
+  brought ← brought_by head.kind known metadata head.header (take head.body rest)
+  Ok (Some (record {
+    batches = brought.batches;
+    known = brought.known;
+    size = 8 + length metadata + head.body;
+  }))
 
-batch-same : (columns : List Column) (metadata rest more : List ℕ) (read : Result Head Cause)
+message-same : (known : Known) (metadata rest more : List ℕ) (read : Result Head Cause)
     → Within (length rest) read
-    → batch_by columns metadata (rest ++ more) read ≡ batch_by columns metadata rest read
-batch-same columns metadata rest more (Err cause) fits = refl
-batch-same columns metadata rest more (Ok head) fits =
-    ap (λ (body : List ℕ). fault_as cause_of (batch_at metadata head.header) >>= λ batch. rows_of
-    columns batch body >>= λ rows. Ok
-    (Some (record { rows = rows; size = 8 + length metadata + head.body })))
+    → message_by known metadata (rest ++ more) read ≡ message_by known metadata rest read
+message-same known metadata rest more (Err cause) fits = refl
+message-same known metadata rest more (Ok head) fits =
+    ap (λ (body : List ℕ). message_of_size (8 + length metadata + head.body)
+    (brought_by head.kind known metadata head.header body))
     (take-append-le head.body rest more fits)
 
 -- a step that waits makes what follows wait
@@ -252,38 +255,37 @@ step-waits (Err cause.Buffer) next is = refl
 step-waits (Err cause.NullCount) next is = refl
 step-waits (Err cause.Offsets) next is = refl
 
-framed-stays : (columns : List Column) (more : List ℕ) (frame : Result Frame Cause)
-    → is_waiting (frame >>= framed_batch columns) ≡ false
-    → (grown more frame >>= framed_batch columns) ≡ (frame >>= framed_batch columns)
-framed-stays columns more (Err cause) is = refl
-framed-stays columns more (Ok ended) is = refl
-framed-stays columns more (Ok (framed metadata rest)) is =
-    let head : Result Head Cause = head_by kind.Batch rest (head_of metadata) in
-    ap (batch_by columns metadata (rest ++ more))
-    (head-stays kind.Batch rest more (head_of metadata)
+framed-stays : (known : Known) (more : List ℕ) (frame : Result Frame Cause)
+    → is_waiting (frame >>= framed_message known) ≡ false
+    → (grown more frame >>= framed_message known) ≡ (frame >>= framed_message known)
+framed-stays known more (Err cause) is = refl
+framed-stays known more (Ok ended) is = refl
+framed-stays known more (Ok (framed metadata rest)) is =
+    let head : Result Head Cause = head_by false rest (head_of metadata) in
+    ap (message_by known metadata (rest ++ more))
+    (head-stays false rest more (head_of metadata)
     (step-waits head
-    (λ h. fault_as cause_of (batch_at metadata h.header) >>= λ batch. rows_of columns batch
-    (take h.body rest) >>= λ rows. Ok
-    (Some (record { rows = rows; size = 8 + length metadata + h.body }))) is))
-    ∙ batch-same columns metadata rest more head (head-within kind.Batch rest (head_of metadata))
+    (λ h. message_of_size (8 + length metadata + h.body)
+    (brought_by h.kind known metadata h.header (take h.body rest))) is))
+    ∙ message-same known metadata rest more head (head-within false rest (head_of metadata))
 
--- What the first bytes of a batch's message say stays.
-pub batch-stays : (columns : List Column) (byte : ℕ) (bytes more : List ℕ)
-    → is_waiting (next_batch columns (byte ∷ bytes)) ≡ false
-    → next_batch columns ((byte ∷ bytes) ++ more) ≡ next_batch columns (byte ∷ bytes)
-batch-stays columns byte bytes more is =
+-- What the first bytes of a message say stays.
+pub message-stays : (known : Known) (byte : ℕ) (bytes more : List ℕ)
+    → is_waiting (next_message known (byte ∷ bytes)) ≡ false
+    → next_message known ((byte ∷ bytes) ++ more) ≡ next_message known (byte ∷ bytes)
+message-stays known byte bytes more is =
     let frame : Result Frame Cause = frame_of false (byte ∷ bytes) in
-    ap (λ (f : Result Frame Cause). f >>= framed_batch columns)
-    (frame-stays false byte bytes more (step-waits frame (framed_batch columns) is))
-    ∙ framed-stays columns more frame is
+    ap (λ (f : Result Frame Cause). f >>= framed_message known)
+    (frame-stays false byte bytes more (step-waits frame (framed_message known) is))
+    ∙ framed-stays known more frame is
 
 -- ---- schemas
 
 abbrev schema_by : List ℕ → Result Head Cause → Result SchemaRead Cause
 schema_by metadata read = do
   head ← read
-  columns ← fault_as cause_of (columns_at metadata head.header)
-  Ok (record { columns = columns; size = 8 + length metadata + head.body })
+  fields ← fault_as cause_of (fields_at metadata head.header)
+  Ok (record { fields = fields; size = 8 + length metadata + head.body })
 
 framed-schema-stays : (more : List ℕ) (frame : Result Frame Cause)
     → is_waiting (frame >>= framed_schema) ≡ false
@@ -291,12 +293,12 @@ framed-schema-stays : (more : List ℕ) (frame : Result Frame Cause)
 framed-schema-stays more (Err cause) is = refl
 framed-schema-stays more (Ok ended) is = refl
 framed-schema-stays more (Ok (framed metadata rest)) is =
-    let head : Result Head Cause = head_by kind.Schema rest (head_of metadata) in
+    let head : Result Head Cause = head_by true rest (head_of metadata) in
     ap (schema_by metadata)
-    (head-stays kind.Schema rest more (head_of metadata)
+    (head-stays true rest more (head_of metadata)
     (step-waits head
-    (λ h. fault_as cause_of (columns_at metadata h.header) >>= λ columns. Ok
-    (record { columns = columns; size = 8 + length metadata + h.body })) is))
+    (λ h. fault_as cause_of (fields_at metadata h.header) >>= λ fields. Ok
+    (record { fields = fields; size = 8 + length metadata + h.body })) is))
 
 -- What the first bytes of a schema's message say stays.
 pub schema-stays : (byte : ℕ) (bytes more : List ℕ) → is_waiting (first_schema (byte ∷ bytes))
@@ -310,51 +312,43 @@ schema-stays byte bytes more is =
 
 -- ---- sizes
 
-abbrev pub Inside : ℕ → Result (Option BatchRead) Cause → Type 0
+abbrev pub Inside : ℕ → Result (Option MessageRead) Cause → Type 0
 Inside total (Err cause) = Unit {0}
 Inside total (Ok None) = Unit {0}
-Inside total (Ok (Some batch)) = (8 ≤ batch.size) × (batch.size ≤ total)
+Inside total (Ok (Some message)) = (8 ≤ message.size) × (message.size ≤ total)
 
-rows-inside : (total size : ℕ) (read : Result (List (List Cell)) Cause) → 8 ≤ size → size ≤ total
-    → Inside total (read >>= λ rows. Ok (Some (record { rows = rows; size = size })))
-rows-inside total size (Err cause) some few = tt
-rows-inside total size (Ok rows) some few = (some, few)
+brought-inside : (total size : ℕ) (read : Result Brought Cause) → 8 ≤ size → size ≤ total
+    → Inside total (message_of_size size read)
+brought-inside total size (Err cause) some few = tt
+brought-inside total size (Ok brought) some few = (some, few)
 
-table-inside : (columns : List Column) (body : List ℕ) (total size : ℕ)
-    (read : Result BatchTable Cause) → 8 ≤ size → size ≤ total
-    → Inside total
-    (read >>= λ batch. rows_of columns batch body >>= λ rows. Ok
-    (Some (record { rows = rows; size = size })))
-table-inside columns body total size (Err cause) some few = tt
-table-inside columns body total size (Ok batch) some few = rows-inside total size
-    (rows_of columns batch body) some few
-
-head-inside : (columns : List Column) (metadata rest : List ℕ) (total : ℕ)
-    (read : Result Head Cause) → 8 + length metadata + length rest ≡ total
-    → Within (length rest) read → Inside total (batch_by columns metadata rest read)
-head-inside columns metadata rest total (Err cause) fills fits = tt
-head-inside columns metadata rest total (Ok head) fills fits =
-    table-inside columns (take head.body rest) total (8 + length metadata + head.body)
-    (fault_as cause_of (batch_at metadata head.header)) (omega arith)
+head-inside : (known : Known) (metadata rest : List ℕ) (total : ℕ) (read : Result Head Cause)
+    → 8 + length metadata + length rest ≡ total
+    → Within (length rest) read → Inside total (message_by known metadata rest read)
+head-inside known metadata rest total (Err cause) fills fits = tt
+head-inside known metadata rest total (Ok head) fills fits =
+    brought-inside total (8 + length metadata + head.body)
+    (brought_by head.kind known metadata head.header (take head.body rest)) (omega arith)
     (omega (arith, fills, fits))
 
-framed-inside : (columns : List Column) (total : ℕ) (frame : Result Frame Cause) → Fills total frame
-    → Inside total (frame >>= framed_batch columns)
-framed-inside columns total (Err cause) fills = tt
-framed-inside columns total (Ok ended) fills = tt
-framed-inside columns total (Ok (framed metadata rest)) fills =
-    head-inside columns metadata rest total (head_by kind.Batch rest (head_of metadata)) fills
-    (head-within kind.Batch rest (head_of metadata))
+framed-inside : (known : Known) (total : ℕ) (frame : Result Frame Cause) → Fills total frame
+    → Inside total (frame >>= framed_message known)
+framed-inside known total (Err cause) fills = tt
+framed-inside known total (Ok ended) fills = tt
+framed-inside known total (Ok (framed metadata rest)) fills =
+    head-inside known metadata rest total (head_by false rest (head_of metadata)) fills
+    (head-within false rest (head_of metadata))
 
--- A batch's message has its first eight bytes, and lies in the bytes.
-pub batch-inside : (columns : List Column) (bytes : List ℕ)
-    → Inside (length bytes) (next_batch columns bytes)
-batch-inside columns bytes = framed-inside columns (length bytes) (frame_of false bytes)
+-- A message has its first eight bytes, and lies in the bytes.
+pub message-inside : (known : Known) (bytes : List ℕ)
+    → Inside (length bytes) (next_message known bytes)
+message-inside known bytes = framed-inside known (length bytes) (frame_of false bytes)
     (frame-fills false bytes)
 
-pub inside-at : (total : ℕ) (read : Result (Option BatchRead) Cause) (batch : BatchRead) → read
-    ≡ Ok (Some batch) → Inside total read → (8 ≤ batch.size) × (batch.size ≤ total)
-inside-at total read batch is inside = subst (Inside total) is inside
+pub inside-at : (total : ℕ) (read : Result (Option MessageRead) Cause) (message : MessageRead)
+    → read ≡ Ok (Some message) → Inside total read
+    → (8 ≤ message.size) × (message.size ≤ total)
+inside-at total read message is inside = subst (Inside total) is inside
 
 -- ---- a schema's size
 
@@ -362,26 +356,26 @@ abbrev pub SchemaInside : ℕ → Result SchemaRead Cause → Type 0
 SchemaInside total (Err cause) = Unit {0}
 SchemaInside total (Ok schema) = schema.size ≤ total
 
-columns-inside : (total size : ℕ) (read : Result (List Column) Cause) → size ≤ total
-    → SchemaInside total (read >>= λ columns. Ok (record { columns = columns; size = size }))
-columns-inside total size (Err cause) few = tt
-columns-inside total size (Ok columns) few = few
+fields-inside : (total size : ℕ) (read : Result (List Field) Cause) → size ≤ total
+    → SchemaInside total (read >>= λ fields. Ok (record { fields = fields; size = size }))
+fields-inside total size (Err cause) few = tt
+fields-inside total size (Ok fields) few = few
 
 schema-head-inside : (metadata rest : List ℕ) (total : ℕ) (read : Result Head Cause)
     → 8 + length metadata + length rest ≡ total → Within (length rest) read
     → SchemaInside total (schema_by metadata read)
 schema-head-inside metadata rest total (Err cause) fills fits = tt
 schema-head-inside metadata rest total (Ok head) fills fits =
-    columns-inside total (8 + length metadata + head.body)
-    (fault_as cause_of (columns_at metadata head.header)) (omega (arith, fills, fits))
+    fields-inside total (8 + length metadata + head.body)
+    (fault_as cause_of (fields_at metadata head.header)) (omega (arith, fills, fits))
 
 framed-schema-inside : (total : ℕ) (frame : Result Frame Cause) → Fills total frame
     → SchemaInside total (frame >>= framed_schema)
 framed-schema-inside total (Err cause) fills = tt
 framed-schema-inside total (Ok ended) fills = tt
 framed-schema-inside total (Ok (framed metadata rest)) fills =
-    schema-head-inside metadata rest total (head_by kind.Schema rest (head_of metadata)) fills
-    (head-within kind.Schema rest (head_of metadata))
+    schema-head-inside metadata rest total (head_by true rest (head_of metadata)) fills
+    (head-within true rest (head_of metadata))
 
 -- A schema's message lies in the bytes.
 pub schema-inside : (bytes : List ℕ) (schema : SchemaRead) → first_schema bytes ≡ Ok schema

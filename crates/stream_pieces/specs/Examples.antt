@@ -3,17 +3,18 @@ use Rattle.std.specs.Prelude.{◌≡◌, true, List, [], drop, take, Option, Non
 use Rattle.cell_model.specs.declared.cell.Cell.{Cell}
 use Rattle.cell_model.specs.declared.kind.Kind.TheVariants as kind
 use Rattle.arrow_spec.specs.Examples.{key_and, nine_rows}
+use Rattle.arrow_spec.specs.Fields.{plain_fields}
 use Rattle.stream_spec.specs.Samples.{nine_stream}
-use Rattle.stream_spec.specs.Streams.{Reading, fault_at}
+use Rattle.stream_spec.specs.Streams.{Reading, behind, fault_at}
 use Rattle.stream_spec.specs.declared.fault.Cause.TheVariants as cause
 use Rattle.stream_spec.specs.declared.fault.StreamFault.{StreamFault}
-use Rattle.stream_pieces.specs.Pieces.{IsWaiting, Standing, behind, opening, still_read}
+use Rattle.stream_pieces.specs.Pieces.{IsWaiting, Standing, opening, still_read}
 use Rattle.stream_pieces.specs.declared.stand.Stand.TheVariants as stand
 
 -- behind the first 600 bytes, of which the last 48 begin the second batch
 abbrev pub behind_600 : Standing
 behind_600 = record {
-  known = Some (record { columns = key_and kind.Utf8 true });
+  known = Some (record { fields = plain_fields (key_and kind.Utf8 true); dictionaries = [] });
   place = 552;
   begun = drop 552 (take 600 nine_stream);
   stand = stand.Going;

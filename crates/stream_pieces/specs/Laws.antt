@@ -3,15 +3,15 @@ use Rattle.std.specs.Prelude.{◌≡◌, ◌^◌, ◌≤◌, length, ℕ, ◌+�
 use Rattle.std.specs.Prelude.{[], None, Some, Ok, Err, Option}
 use Rattle.cell_model.specs.declared.cell.Cell.{Cell}
 use Rattle.flat_read.specs.Reading.{number_from}
-use Rattle.stream_spec.specs.Streams.{SchemaRead, fault_at, first_schema, reading_of}
+use Rattle.stream_spec.specs.Streams.{Known, MessageRead, SchemaRead, behind, columns_in, fault_at}
+use Rattle.stream_spec.specs.Streams.{first_schema, known_by, next_message, reading_of}
 use Rattle.stream_spec.specs.declared.fault.Cause.{Cause}
 use Rattle.stream_spec.specs.declared.fault.Cause.TheVariants as cause
-use Rattle.stream_pieces.specs.Pieces.{Known, MessageRead, behind, is_waiting, known_by}
 use Rattle.stream_spec.specs.declared.fault.StreamFault.{StreamFault}
-use Rattle.stream_pieces.specs.Pieces.{Feeds, IsOver, IsReadingOf, IsWaiting}
+use Rattle.stream_pieces.specs.Pieces.{Feeds, IsOver, IsReadingOf, IsWaiting, is_waiting}
 use Rattle.stream_pieces.specs.Pieces.{ReadSoFar, Standing}
 use Rattle.stream_pieces.specs.declared.stand.Stand.TheVariants as stand
-use Rattle.stream_pieces.specs.Pieces.{end_fault, next_message, schema_of}
+use Rattle.stream_pieces.specs.Pieces.{end_fault, schema_of}
 use Rattle.stream_pieces.specs.Pieces.{no_more, opening, read_from, still_read, tells_end}
 
 -- What the first bytes of a message say is said whatever comes behind them, but that there are too
@@ -133,4 +133,4 @@ abbrev pub SchemaIsKept : Type 0
 SchemaIsKept = (old new : Standing) (piece : List ℕ) (rows : List (List Cell))
     (fault : Option StreamFault) (known : Known)
     → Feeds old new piece rows fault → IsWaiting new → old.known ≡ Some known
-    → schema_of new.known ≡ Some known.columns
+    → schema_of new.known ≡ Some (columns_in known)

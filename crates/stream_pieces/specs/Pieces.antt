@@ -5,45 +5,17 @@ use Rattle.std.specs.Prelude.{length, option_map, Option, None, Some, Result, Ok
 use Rattle.cell_model.specs.declared.cell.Cell.{Cell}
 use Rattle.cell_model.specs.declared.column.Column.{Column}
 use Rattle.flat_read.specs.Reading.{number_from}
-use Rattle.stream_spec.specs.Checks.{◌>>=◌}
-use Rattle.stream_spec.specs.Streams.{BatchRead, Reading, SchemaRead, batches_from, fault_at}
-use Rattle.stream_spec.specs.Streams.{first_schema}
-use Rattle.stream_spec.specs.Streams.{next_batch, reading_of}
+use Rattle.stream_spec.specs.Streams.{Known, Reading, behind, columns_in, fault_at, first_schema}
+use Rattle.stream_spec.specs.Streams.{messages_from, next_message, reading_of}
 use Rattle.stream_spec.specs.declared.fault.Cause.{Cause}
 use Rattle.stream_spec.specs.declared.fault.Cause.TheVariants as cause
 use Rattle.stream_spec.specs.declared.fault.StreamFault.{StreamFault}
 use Rattle.stream_pieces.specs.declared.stand.Stand.{Stand}
 use Rattle.stream_pieces.specs.declared.stand.Stand.TheVariants as stand
 
--- ---- what is known behind the schema
-
--- What later messages are read with.
-pub record Known : Type 0 where
-  pub columns : List Column
-
--- what a schema's message tells
-abbrev pub known_by : SchemaRead → Known
-known_by schema = record { columns = schema.columns }
-
 -- the columns, once they are known
 abbrev pub schema_of : Option Known → Option (List Column)
-schema_of known = option_map (λ k. k.columns) known
-
--- A later message: the batches that it brings, what is known behind it, and how many bytes it has.
-pub record MessageRead : Type 0 where
-  pub batches : List (List (List Cell))
-  pub known : Known
-  pub size : ℕ
-
--- A record batch brings itself, and leaves what is known.
-abbrev pub message_of : Known → BatchRead → MessageRead
-message_of known batch = record { batches = batch.rows ∷ []; known = known; size = batch.size }
-
--- the message with which the bytes begin; none where the stream ends
-abbrev pub next_message : Known → List ℕ → Result (Option MessageRead) Cause
-next_message known bytes = do
-  batch ← next_batch known.columns bytes
-  Ok (option_map (message_of known) batch)
+schema_of known = option_map columns_in known
 
 -- ---- where a reader stands
 
@@ -66,7 +38,7 @@ no_more known fault = record { schema = schema_of known; batches = []; fault = f
 -- what bytes from this place on read as, where this is known
 abbrev pub read_from : Option Known → ℕ → List ℕ → Reading
 read_from None place bytes = reading_of bytes
-read_from (Some known) place bytes = batches_from (length bytes + 1) known.columns place bytes
+read_from (Some known) place bytes = messages_from (length bytes + 1) known place bytes
 
 -- What is still read where these bytes come, and then the input ends.
 abbrev pub still_read_by : Standing → Stand → List ℕ → Reading
@@ -76,10 +48,6 @@ still_read_by s (stand.Stopped fault) bytes = no_more s.known (Some fault)
 
 abbrev pub still_read : Standing → List ℕ → Reading
 still_read s bytes = still_read_by s s.stand bytes
-
--- batches in front of what else is read
-abbrev pub behind : List (List (List Cell)) → Reading → Reading
-behind batches reading = record reading { batches = batches ++ reading.batches }
 
 -- ---- what is not decided yet
 

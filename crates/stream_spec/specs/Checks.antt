@@ -1,5 +1,5 @@
 -- Checks one after another: the first that fails gives the answer.
-use Rattle.std.specs.Prelude.{Bool, true, false, List, [], ◌∷◌, Option, None, Some, Result, Ok, Err}
+use Rattle.std.specs.Prelude.{Bool, true, false, Option, None, Some, Result, Ok, Err}
 
 -- what is read, and then what is read with it; the first failure stands
 infixl 10 ◌>>=◌
@@ -21,11 +21,3 @@ or_fault fault (Some value) = Ok value
 abbrev pub fault_as : {A D E : Type 0} → (D → E) → Result A D → Result A E
 fault_as as' (Ok value) = Ok value
 fault_as as' (Err fault) = Err (as' fault)
-
--- each of a list, read in its order
-abbrev pub each_of : {A B E : Type 0} → (A → Result B E) → List A → Result (List B) E
-each_of reads [] = Ok []
-each_of reads (item ∷ items) = do
-  first ← reads item
-  rest ← each_of reads items
-  Ok (first ∷ rest)

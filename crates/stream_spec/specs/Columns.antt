@@ -2,6 +2,7 @@
 -- offsets and data at whatever place in the body they lie (Arrow columnar format, "Buffer Listing
 -- for Each Layout").
 use Rattle.std.specs.Prelude.{ℕ, ◌+◌, ◌-◌, ◌*◌, ◌/◌, ◌%◌, Bool, true, ◌&&◌, ◌||◌, not, ◌==◌, nat_le}
+use Rattle.std.specs.Prelude.{filter, nat_lt, Option, None, Some}
 use Rattle.std.specs.Prelude.{int_le, ◌+ℤ◌, List, [], ◌∷◌, length, map, take, drop, ℤ, pos}
 use Rattle.std.specs.Prelude.{unsigned_abs, count_by, slice_index, Result, Ok, if◌then◌else◌}
 use Rattle.std.specs.Int.{Width, bit_at, byte_len, cast_signed}
@@ -12,10 +13,13 @@ use Rattle.cell_model.specs.Kinds.{values_of}
 use Rattle.cell_model.specs.Widths.{number_width, offset_width}
 use Rattle.cell_model.specs.declared.cell.Cell.{Cell}
 use Rattle.cell_model.specs.declared.cell.Cell.TheVariants.{Null, Num, Truth, Text, Blob}
-use Rattle.cell_model.specs.declared.column.Column.{Column}
+use Rattle.cell_model.specs.declared.kind.Kind.{Kind}
 use Rattle.cell_model.specs.declared.values.Values.{Values}
 use Rattle.cell_model.specs.declared.values.Values.TheVariants.{Signed, Unsigned, Truths}
 use Rattle.cell_model.specs.declared.values.Values.TheVariants.{Texts, Blobs, Strips}
+use Rattle.arrow_spec.specs.Fields.{plain_field}
+use Rattle.arrow_spec.specs.declared.fields.Encoding.{Encoding}
+use Rattle.arrow_spec.specs.declared.fields.Field.{Field}
 use Rattle.flat_read.specs.Reading.{number_from}
 use Rattle.stream_spec.specs.Checks.{◌>>=◌, rule}
 use Rattle.stream_spec.specs.declared.fault.Cause.{Cause}
@@ -167,33 +171,118 @@ column_of body rows values nulls validity buffers = do
       (cells_of values (bytes_of body validity) (map (bytes_of body) buffers) rows))
   Ok (cells_of values (bytes_of body validity) (map (bytes_of body) buffers) rows)
 
+-- ---- by dictionaries
+
+-- A dictionary: its id, and its values as far as they are known.
+pub record Dictionary : Type 0 where
+  pub id : ℕ
+  pub values : List Cell
+
+-- the values of the dictionary with this id, as far as they are known
+abbrev pub values_with : ℕ → List Dictionary → List Cell
+values_with id [] = []
+values_with id (first ∷ rest) = if first.id == id then first.values else values_with id rest
+
+-- The dictionary with this id has these values from now on, and others keep theirs.
+abbrev pub with_values : ℕ → List Cell → List Dictionary → List Dictionary
+with_values id values dictionaries = record { id = id; values = values }
+    ∷ filter (λ dictionary. not (dictionary.id == id)) dictionaries
+
+-- what stands in the buffers of a field: its values or, where it is encoded, indices
+abbrev pub stored_kind : Field → Kind
+stored_kind field = elim field.encoding [
+  | None ↦ field.column.kind
+  | Some encoding ↦ encoding.indices
+]
+
+-- the number in a slot, if there is one
+abbrev pub number_in : Cell → Option ℤ
+number_in Null = None
+number_in (Num number) = Some number
+number_in (Truth truth) = None
+number_in (Text text) = None
+number_in (Blob bytes) = None
+
+-- an index is the place of one of these values
+abbrev pub is_place_in : List Cell → Cell → Bool
+is_place_in values cell = elim (number_in cell) [
+  | None ↦ true
+  | Some index ↦ int_le (pos 0) index && nat_lt (unsigned_abs index) (length values)
+]
+
+-- the value that stands at an index; at a null stands none
+abbrev pub value_told : List Cell → Cell → Cell
+value_told values cell = elim (number_in cell) [
+  | None ↦ Null
+  | Some index ↦ slice_index_or values (unsigned_abs index) Null
+]
+
+-- The values that indices tell: each is the place of one (Arrow columnar format,
+-- "Dictionary-encoded Layout").
+abbrev pub values_told : List Cell → List Cell → Result (List Cell) Cause
+values_told values indices = do
+  inside ← rule cause.Dictionary (list_all (is_place_in values) indices)
+  Ok (map (value_told values) indices)
+
+-- the cells of a field, of which these are stored
+abbrev pub cells_by : Option Encoding → List Dictionary → List Cell → Result (List Cell) Cause
+cells_by None dictionaries stored = Ok stored
+cells_by (Some encoding) dictionaries stored =
+    values_told (values_with encoding.id dictionaries) stored
+
+-- The cells of a field of so many rows with this null count and these buffers, the validity first.
+abbrev pub field_cells : List ℕ → ℕ → List Dictionary → Field → ℤ → BufferPlace
+    → List BufferPlace → Result (List Cell) Cause
+field_cells body rows dictionaries field nulls validity buffers = do
+  stored ← column_of body rows (values_of (stored_kind field)) nulls validity buffers
+  cells_by field.encoding dictionaries stored
+
 -- The columns, each with its node and its buffers.
-abbrev pub columns_of : List ℕ → ℕ → List Column → List FieldNode → List BufferPlace
-    → Result (List (List Cell)) Cause
-columns_of body rows [] nodes buffers = Ok []
-columns_of body rows (column ∷ columns) [] buffers = Ok []
-columns_of body rows (column ∷ columns) (node ∷ nodes) [] = Ok []
-columns_of body rows (column ∷ columns) (node ∷ nodes) (validity ∷ buffers) = do
-  cells ← column_of body rows (values_of column.kind) node.null_count validity
-      (take (data_count (values_of column.kind)) buffers)
-  rest ← columns_of body rows columns nodes (drop (data_count (values_of column.kind)) buffers)
+abbrev pub columns_of : List ℕ → ℕ → List Dictionary → List Field → List FieldNode
+    → List BufferPlace → Result (List (List Cell)) Cause
+columns_of body rows dictionaries [] nodes buffers = Ok []
+columns_of body rows dictionaries (field ∷ fields) [] buffers = Ok []
+columns_of body rows dictionaries (field ∷ fields) (node ∷ nodes) [] = Ok []
+columns_of body rows dictionaries (field ∷ fields) (node ∷ nodes) (validity ∷ buffers) = do
+  cells ← field_cells body rows dictionaries field node.null_count validity
+      (take (data_count (values_of (stored_kind field))) buffers)
+  rest ← columns_of body rows dictionaries fields nodes
+      (drop (data_count (values_of (stored_kind field))) buffers)
   Ok (cells ∷ rest)
 
 -- how many buffers the columns have
-abbrev pub buffer_count : List Column → ℕ
+abbrev pub buffer_count : List Field → ℕ
 buffer_count [] = 0
-buffer_count (column ∷ columns) = 1 + data_count (values_of column.kind) + buffer_count columns
+buffer_count (field ∷ fields) = 1 + data_count (values_of (stored_kind field)) + buffer_count fields
+
+-- The columns of a batch of these fields with this body: it has a node and the buffers of each, and
+-- each node has as many slots as the batch has rows (IPC format, "RecordBatch message").
+abbrev pub cells_in : List Dictionary → List Field → BatchTable → List ℕ
+    → Result (List (List Cell)) Cause
+cells_in dictionaries fields batch body = do
+  nodes ← rule cause.Shape (length batch.nodes == length fields)
+  buffers ← rule cause.Shape (length batch.buffers == buffer_count fields)
+  slots ← rule cause.Shape (list_all (λ node. int_eq node.length (pos batch.rows)) batch.nodes)
+  columns_of body batch.rows dictionaries fields batch.nodes batch.buffers
 
 -- the row in a slot: a cell of each column
 abbrev pub row_at : List (List Cell) → ℕ → List Cell
 row_at columns i = map (λ cells. slice_index_or cells i Null) columns
 
--- The rows of a batch of this schema with this body: it has a node and the buffers of each column,
--- and each node has as many slots as the batch has rows (IPC format, "RecordBatch message").
-abbrev pub rows_of : List Column → BatchTable → List ℕ → Result (List (List Cell)) Cause
-rows_of columns batch body = do
-  nodes ← rule cause.Shape (length batch.nodes == length columns)
-  buffers ← rule cause.Shape (length batch.buffers == buffer_count columns)
-  slots ← rule cause.Shape (list_all (λ node. int_eq node.length (pos batch.rows)) batch.nodes)
-  cells ← columns_of body batch.rows columns batch.nodes batch.buffers
+-- The rows of a batch.
+abbrev pub rows_of : List Dictionary → List Field → BatchTable → List ℕ
+    → Result (List (List Cell)) Cause
+rows_of dictionaries fields batch body = do
+  cells ← cells_in dictionaries fields batch body
   Ok (map (row_at cells) (range_with_len 0 batch.rows))
+
+-- a field of such values that is not encoded
+abbrev pub values_field : Kind → Field
+values_field kind = plain_field (record { name = []; kind = kind; nullable = true })
+
+-- The values of a dictionary: a batch of one column of these (Arrow columnar format, "Dictionary
+-- Messages").
+abbrev pub values_in : Kind → BatchTable → List ℕ → Result (List Cell) Cause
+values_in kind batch body = do
+  cells ← cells_in [] (values_field kind ∷ []) batch body
+  Ok (slice_index_or cells 0 [])

@@ -3,3 +3,4 @@ pub mod Metadata
 pub mod Columns
 pub mod Streams
 pub mod Samples
+pub mod DictSamples

@@ -3,26 +3,31 @@
 -- those of the public schemas Message.fbs and Schema.fbs; how a table, a vtable, a vector and a
 -- string are read is of the FlatBuffers internals.
 use Rattle.std.specs.Prelude.{ℕ, ◌+◌, ◌*◌, ◌^◌, Bool, false, ◌||◌, not, ◌==◌, nat_lt}
-use Rattle.std.specs.Prelude.{List, [], ◌∷◌, map, find, ℤ, if◌then◌else◌, Option, None, Some}
-use Rattle.std.specs.Prelude.{is_some, Result, Ok}
+use Rattle.std.specs.Prelude.{true, List, [], ◌∷◌, ◌++◌, map, find, ℤ, if◌then◌else◌, Option, None}
+use Rattle.std.specs.Prelude.{Some, is_some, Result, Ok}
 use Rattle.std.specs.Int.{w64, cast_signed}
-use Rattle.std.specs.List.{range_with_len}
+use Rattle.std.specs.List.{list_all, range_with_len}
 use Rattle.std.specs.Str.{is_utf8}
 use Rattle.cell_model.specs.Kinds.{kinds}
 use Rattle.cell_model.specs.Widths.{is_byte_width}
-use Rattle.cell_model.specs.declared.column.Column.{Column}
 use Rattle.cell_model.specs.declared.kind.Kind.{Kind}
 use Rattle.cell_model.specs.declared.kind.Kind.TheVariants.{Fixed}
 use Rattle.arrow_spec.specs.Metadata.{type_of}
+use Rattle.arrow_spec.specs.declared.fields.Encoding.{Encoding}
+use Rattle.arrow_spec.specs.declared.fields.Field.{Field}
 use Rattle.arrow_spec.specs.declared.types.ArrowType.{ArrowType}
 use Rattle.arrow_spec.specs.declared.types.ArrowType.TheVariants.{SignedInt, UnsignedInt, Date}
 use Rattle.arrow_spec.specs.declared.types.ArrowType.TheVariants.{FixedSizeBinary, Plain}
 use Rattle.flat_read.specs.Reading.{field_at, number_at, number_from, target_at, text_at, vector_at}
 use Rattle.flat_read.specs.declared.FlatFault.{FlatFault}
-use Rattle.stream_spec.specs.Checks.{◌>>=◌, each_of, fault_as, or_fault, rule}
+use Rattle.stream_spec.specs.Checks.{◌>>=◌, fault_as, or_fault, rule}
 use Rattle.stream_spec.specs.declared.fault.MetaFault.{MetaFault}
 use Rattle.stream_spec.specs.declared.message.BufferPlace.{BufferPlace}
+use Rattle.stream_spec.specs.declared.message.DictionaryHead.{DictionaryHead}
+use Rattle.stream_spec.specs.declared.message.DictionaryTable.{DictionaryTable}
 use Rattle.stream_spec.specs.declared.message.Elements.{Elements}
+use Rattle.stream_spec.specs.declared.message.EncodingTable.{EncodingTable}
+use Rattle.stream_spec.specs.declared.message.FieldKind.{FieldKind}
 use Rattle.stream_spec.specs.declared.message.FieldNode.{FieldNode}
 use Rattle.stream_spec.specs.declared.message.Head.{Head}
 use Rattle.stream_spec.specs.declared.message.HeadKind.{HeadKind}
@@ -99,20 +104,21 @@ message_table_at bytes = do
   body ← scalar bytes root 3 8
   Ok (record { version = version; header_type = header_type; header = header; body = body })
 
--- what the number of a message's header says: Schema 1, RecordBatch 3; none of others
+-- what the number of a message's header says: Schema 1, DictionaryBatch 2, RecordBatch 3; none of
+-- others
 abbrev pub kind_of_header : ℕ → Option HeadKind
 kind_of_header number =
     if number == 1 then Some head.Schema
+    else if number == 2 then Some head.Dictionary
     else if number == 3 then Some head.Batch
     else None
 
--- The head of a message with this metadata: V4 (3) or V5 (4), and a schema or a record batch
--- (Message.fbs, "Message" and "MessageHeader").
+-- The head of a message with this metadata: V4 (3) or V5 (4), and a schema, a dictionary or a
+-- record batch (Message.fbs, "Message" and "MessageHeader").
 abbrev pub head_of : List ℕ → Result Head MetaFault
 head_of bytes = do
   message ← fault_as fault.Flat (message_table_at bytes)
   version ← rule fault.Version (message.version == 3 || message.version == 4)
-  dictionary ← rule fault.Dictionary (not (message.header_type == 2))
   kind ← or_fault fault.Kind (kind_of_header message.header_type)
   header ← or_fault fault.Shape message.header
   body ← rule fault.Shape (not (is_negative message.body))
@@ -120,13 +126,13 @@ head_of bytes = do
 
 -- ---- a schema
 
--- A Field table: name (a string), nullable (a byte), type_type (8 bits), type and dictionary
--- (references), children (a vector of tables); and what the table of its type says.
+-- A Field table: name (a string), nullable (a byte), type_type (8 bits), type (a reference),
+-- dictionary (a table), children (a vector of tables); and what the table of its type says.
 pub record FieldTable : Type 0 where
   pub name : List ℕ
   pub nullable : Bool
   pub type_place : Option ℕ
-  pub dictionary : Bool
+  pub encoding : Option EncodingTable
   pub children : ℕ
   pub type' : ArrowType
 
@@ -162,20 +168,35 @@ type_at bytes number place =
     else if number == 15 then target_of bytes place >>= fixed_type bytes
     else Ok (Plain number)
 
+-- the type of the indices; an absent one is an Int of 32 bits with a sign
+abbrev pub index_type : List ℕ → Option ℕ → Result ArrowType FlatFault
+index_type bytes None = Ok (SignedInt 32)
+index_type bytes (Some table) = int_type bytes (Some table)
+
+-- a DictionaryEncoding table: id (64 bits), indexType (an Int table)
+abbrev pub encoding_table_at : List ℕ → Option ℕ → Result (Option EncodingTable) FlatFault
+encoding_table_at bytes None = Ok None
+encoding_table_at bytes (Some table) = do
+  id ← scalar bytes table 0 8
+  place ← reference bytes table 1
+  indices ← index_type bytes place
+  Ok (Some (record { id = id; indices = indices }))
+
 abbrev pub field_table_at : List ℕ → ℕ → Result FieldTable FlatFault
 field_table_at bytes table = do
   name ← text bytes table 0
   nullable ← scalar bytes table 1 1
   type_type ← scalar bytes table 2 1
   type_place ← field_at bytes table 3
-  dictionary ← field_at bytes table 4
+  dictionary ← reference bytes table 4
   children ← elements bytes table 5 4
   type' ← type_at bytes type_type type_place
+  encoding ← encoding_table_at bytes dictionary
   Ok (record {
     name = name;
     nullable = not (nullable == 0);
     type_place = type_place;
-    dictionary = is_some dictionary;
+    encoding = encoding;
     children = children.count;
     type' = type';
   })
@@ -202,24 +223,54 @@ kinds_like (Plain number) = kinds
 abbrev pub kind_of_type : ArrowType → Option Kind
 kind_of_type type' = find (λ kind. is_type (type_of kind) type') (kinds_like type')
 
--- The kind of a field's values: its name is a text, it is not dictionary-encoded, its type is one
--- that is read, and it has no children (Schema.fbs, "Field").
-abbrev pub kind_of_field : FieldTable → Result Kind MetaFault
-kind_of_field field = do
+-- how a field is encoded, if it is: the indices are integers of a width that there is
+abbrev pub encoding_of : Option EncodingTable → Result (Option Encoding) MetaFault
+encoding_of None = Ok None
+encoding_of (Some table) = do
+  indices ← or_fault fault.Kind (kind_of_type table.indices)
+  Ok (Some (record { id = table.id; indices = indices }))
+
+-- the field has not this dictionary, or its values are of this kind
+abbrev pub agrees : ℕ → Kind → Field → Bool
+agrees id kind field = elim field.encoding [
+  | None ↦ true
+  | Some encoding ↦ not (encoding.id == id) || is_type (type_of field.column.kind) (type_of kind)
+]
+
+-- no field before one has its dictionary and values of another kind
+abbrev pub all_agree : List Field → Kind → Option Encoding → Bool
+all_agree before kind None = true
+all_agree before kind (Some encoding) = list_all (agrees encoding.id kind) before
+
+-- What a field is, behind these: its name is a text, its type and that of its indices are some that
+-- are read, its dictionary has one kind of values, and it has no children (Schema.fbs, "Field").
+abbrev pub kind_of_field : List Field → FieldTable → Result FieldKind MetaFault
+kind_of_field before field = do
   name ← rule fault.Utf8 (is_utf8 field.name)
-  dictionary ← rule fault.Dictionary (not field.dictionary)
   kind ← or_fault fault.Kind (kind_of_type field.type')
+  encoding ← encoding_of field.encoding
+  one_kind ← rule fault.Dictionary (all_agree before kind encoding)
   type_place ← rule fault.Shape (is_some field.type_place)
   childless ← rule fault.Shape (field.children == 0)
-  Ok kind
+  Ok (record { kind = kind; encoding = encoding })
 
--- the column of the field whose reference stands at a place
-abbrev pub column_at : List ℕ → ℕ → Result Column MetaFault
-column_at bytes place = do
+-- the field whose reference stands at a place, behind these
+abbrev pub schema_field_at : List ℕ → List Field → ℕ → Result Field MetaFault
+schema_field_at bytes before place = do
   table ← fault_as fault.Flat (target_at bytes place)
   field ← fault_as fault.Flat (field_table_at bytes table)
-  kind ← kind_of_field field
-  Ok (record { name = field.name; kind = kind; nullable = field.nullable })
+  judged ← kind_of_field before field
+  Ok (record {
+    column = record { name = field.name; kind = judged.kind; nullable = field.nullable };
+    encoding = judged.encoding;
+  })
+
+-- these fields, and behind them those whose references stand at places
+abbrev pub fields_behind : List ℕ → List Field → List ℕ → Result (List Field) MetaFault
+fields_behind bytes before [] = Ok before
+fields_behind bytes before (place ∷ places) = do
+  field ← schema_field_at bytes before place
+  fields_behind bytes (before ++ field ∷ []) places
 
 -- the places of so many elements of a width
 abbrev pub places_of : Elements → ℕ → List ℕ
@@ -232,14 +283,14 @@ schema_table_at bytes table = do
   fields ← elements bytes table 1 4
   Ok (record { endianness = endianness; fields = fields })
 
--- The columns of a schema: numbers are little-endian, and there is a field (Schema.fbs, "Schema"
--- and "Endianness").
-abbrev pub columns_at : List ℕ → ℕ → Result (List Column) MetaFault
-columns_at bytes table = do
+-- The fields of a schema: numbers are little-endian, and there is a field (Schema.fbs, "Schema" and
+-- "Endianness").
+abbrev pub fields_at : List ℕ → ℕ → Result (List Field) MetaFault
+fields_at bytes table = do
   schema ← fault_as fault.Flat (schema_table_at bytes table)
   endian ← rule fault.Endian (schema.endianness == 0)
   some ← rule fault.Shape (not (schema.fields.count == 0))
-  each_of (column_at bytes) (places_of schema.fields 4)
+  fields_behind bytes [] (places_of schema.fields 4)
 
 -- ---- a record batch
 
@@ -285,3 +336,20 @@ batch_at bytes table = do
   plain ← rule fault.Compressed (not batch.compressed)
   rows ← rule fault.Shape (not (is_negative batch.rows))
   Ok batch
+
+-- ---- a dictionary
+
+-- a DictionaryBatch table: id (64 bits), data (a RecordBatch table), isDelta (a byte)
+abbrev pub dictionary_table_at : List ℕ → ℕ → Result DictionaryTable FlatFault
+dictionary_table_at bytes table = do
+  id ← scalar bytes table 0 8
+  values ← reference bytes table 1
+  delta ← scalar bytes table 2 1
+  Ok (record { id = id; values = values; delta = not (delta == 0) })
+
+-- The dictionary: there are values (Message.fbs, "DictionaryBatch").
+abbrev pub dictionary_at : List ℕ → ℕ → Result DictionaryHead MetaFault
+dictionary_at bytes table = do
+  dictionary ← fault_as fault.Flat (dictionary_table_at bytes table)
+  values ← or_fault fault.Shape dictionary.values
+  Ok (record { id = dictionary.id; values = values; delta = dictionary.delta })

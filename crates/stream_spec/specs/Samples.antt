@@ -43,14 +43,14 @@ abbrev pub ChangedBytesAreFound : Type 0
 ChangedBytesAreFound = map fault_with
     (((0, 0x00) ∷ []) ∷ ((50, 0x02) ∷ []) ∷ ((50, 0x03) ∷ []) ∷ ((72, 0x01) ∷ [])
     ∷ ((121, 0x03) ∷ []) ∷ ((128, 0xff) ∷ []) ∷ ((148, 0x18) ∷ []) ∷ ((264, 0x80) ∷ [])
-    ∷ ((272, 0x02) ∷ []) ∷ ((274, 0x01) ∷ []) ∷ ((274, 0x04) ∷ []) ∷ ((384, 0x38) ∷ [])
-    ∷ ((384, 0x80) ∷ []) ∷ ((544, 0xff) ∷ [])
+    ∷ ((272, 0x02) ∷ []) ∷ ((274, 0x01) ∷ []) ∷ ((274, 0x02) ∷ []) ∷ ((274, 0x04) ∷ [])
+    ∷ ((384, 0x38) ∷ []) ∷ ((384, 0x80) ∷ []) ∷ ((544, 0xff) ∷ [])
     ∷ ((344, 0x01) ∷ []) ∷ ((508, 0x09) ∷ []) ∷ ((536, 0x09) ∷ [])
     ∷ ((280, 0x0c) ∷ (290, 0x04) ∷ []) ∷ ((8, 0xff) ∷ []) ∷ [])
-    ≡ at 0 cause.Marker ∷ at 0 cause.Dictionary ∷ at 0 cause.Shape ∷ at 0 cause.Endian ∷ at 0
-    cause.Kind ∷ at 0 cause.Utf8 ∷ at 0 cause.Kind ∷ at 568 cause.Marker
-    ∷ at 224 cause.Version ∷ at 224 cause.Shape ∷ at 224 cause.Kind ∷ at 224 cause.Buffer ∷ at 224
-    cause.Buffer ∷ at 224 cause.Utf8
+    ≡ at 0 cause.Marker ∷ at 0 cause.Shape ∷ at 0 cause.Shape ∷ at 0 cause.Endian
+    ∷ at 0 cause.Kind ∷ at 0 cause.Utf8 ∷ at 0 cause.Kind ∷ at 568 cause.Marker
+    ∷ at 224 cause.Version ∷ at 224 cause.Shape ∷ at 224 cause.Dictionary ∷ at 224 cause.Kind
+    ∷ at 224 cause.Buffer ∷ at 224 cause.Buffer ∷ at 224 cause.Utf8
     ∷ at 224 cause.NullCount ∷ at 224 cause.Offsets ∷ at 224 cause.Offsets ∷ at 224 cause.Compressed
     ∷ at 0 cause.Flat ∷ []
 

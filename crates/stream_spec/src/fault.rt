@@ -10,9 +10,9 @@ pub enum MetaFault {
     Flat(FlatFault),
     /// The version is neither V4 nor V5.
     Version,
-    /// The message is a dictionary batch, or a field is dictionary-encoded.
+    /// A field has the dictionary of an earlier one, and values of another kind.
     Dictionary,
-    /// The message's header or a field's type is not one that is read.
+    /// The message's header, a field's type or that of its indices is not one that is read.
     Kind,
     /// What has to be there is absent, or what must not be is there; a length is negative or
     /// another's.
@@ -35,6 +35,8 @@ pub enum Cause {
     /// The metadata's size is negative, or as in [`MetaFault`].
     Flat,
     Version,
+    /// As in [`MetaFault`]; or a dictionary is no field's; or an index is not inside its
+    /// dictionary.
     Dictionary,
     Kind,
     /// As in [`MetaFault`]; or a schema does not stand first, and alone; or counts and lengths are

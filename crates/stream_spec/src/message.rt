@@ -1,9 +1,14 @@
 //! What a message's metadata says, table by table (Message.fbs, Schema.fbs).
 
+use arrow_spec::{ArrowType, Encoding};
+use cell_model::Kind;
+
 /// What a message is.
 #[derive(Clone, Copy, Debug, PartialEq, Eq)]
 pub enum HeadKind {
     Schema,
+    /// The values of a dictionary.
+    Dictionary,
     /// A record batch.
     Batch,
 }
@@ -40,6 +45,42 @@ pub struct Elements {
 pub struct SchemaTable {
     pub endianness: u64,
     pub fields: Elements,
+}
+
+/// A DictionaryEncoding table.
+#[derive(Clone, Copy, Debug)]
+pub struct EncodingTable {
+    /// The dictionary's id.
+    pub id: u64,
+    /// The type of the indices.
+    pub indices: ArrowType,
+}
+
+/// What is judged of a field: the kind of its values, and how it is encoded, if it is.
+#[derive(Clone, Copy, Debug)]
+pub struct FieldKind {
+    pub kind: Kind,
+    pub encoding: Option<Encoding>,
+}
+
+/// A DictionaryBatch table.
+#[derive(Clone, Copy, Debug)]
+pub struct DictionaryTable {
+    /// The dictionary's id.
+    pub id: u64,
+    /// The place of the table of its values' record batch, if there is one.
+    pub values: Option<u64>,
+    /// Whether the values come behind those that are there, and not in their place.
+    pub delta: bool,
+}
+
+/// A dictionary's message: the dictionary's id, the place of the table of its values' record batch,
+/// and whether the values come behind those that are there, and not in their place.
+#[derive(Clone, Copy, Debug)]
+pub struct DictionaryHead {
+    pub id: u64,
+    pub values: u64,
+    pub delta: bool,
 }
 
 /// A node of a record batch: how many slots a column has, and how many of them are null.

@@ -6,11 +6,11 @@ use Rattle.std.specs.Prelude.{is_some, if◌then◌else◌}
 use Rattle.std.proofs.lemmas.List.{map-append}
 use Rattle.cell_model.specs.declared.cell.Cell.{Cell}
 use Rattle.cell_model.specs.declared.column.Column.{Column}
-use Rattle.stream_spec.specs.Streams.{Reading, reading_of}
+use Rattle.stream_spec.specs.Streams.{Known, Reading, columns_in, reading_of}
 use Rattle.stream_spec.specs.declared.fault.StreamFault.{StreamFault}
 use Rattle.stream_pieces.specs.declared.stand.Stand.{Stand}
 use Rattle.stream_pieces.specs.declared.stand.Stand.TheVariants as stand
-use Rattle.stream_pieces.specs.Pieces.{Feeds, FeedsTo, IsReadingOf, IsWaiting, Known, ReadSoFar}
+use Rattle.stream_pieces.specs.Pieces.{Feeds, FeedsTo, IsReadingOf, IsWaiting, ReadSoFar}
 use Rattle.stream_pieces.specs.Pieces.{Standing, end_fault, no_more, rows_of, schema_of, still_read}
 use Rattle.stream_pieces.proofs.Over.{done-is-over}
 use Rattle.stream_pieces.proofs.Schemas.{no-rows-yet, schema-stays-known}
@@ -89,7 +89,7 @@ grows None None rows more kept first none =
     (ap (λ (r : List (List Cell)). r ++ more) (sym (first refl)) ∙ none refl)
 
 kept-by : (known : Option Known) (after : Option (List Column))
-    → ((k : Known) → known ≡ Some k → after ≡ Some k.columns)
+    → ((k : Known) → known ≡ Some k → after ≡ Some (columns_in k))
     → (columns : List Column) → schema_of known ≡ Some columns → after ≡ Some columns
 kept-by None after stays columns is = absurd cc
 kept-by (Some known) after stays columns is = stays known refl ∙ is

@@ -3,6 +3,7 @@ use Rattle.std.specs.Prelude.{ℕ, List, [], ◌∷◌, ◌++◌, map, flat_map,
 use Rattle.std.specs.Prelude.{None, Some, if◌then◌else◌}
 use Rattle.cell_model.specs.declared.cell.Cell.{Cell}
 use Rattle.cell_model.specs.declared.column.Column.{Column}
+use Rattle.arrow_spec.specs.declared.fields.Field.{Field}
 use Rattle.stream_spec.specs.Streams.{Reading}
 use Rattle.stream_spec.specs.declared.fault.Cause.{Cause}
 use Rattle.stream_spec.specs.declared.fault.Cause.TheVariants as cause
@@ -31,6 +32,10 @@ cause_text cause.Offsets = codes "Offsets"
 abbrev pub column_text : Column → List ℕ
 column_text column = quoted column.name ++ codes ":" ++ kind_text column.kind
     ++ (if column.nullable then codes "?" else [])
+
+-- the columns of fields, each of the kind of its values
+abbrev pub field_columns : List Field → List Column
+field_columns fields = map (λ field. field.column) fields
 
 -- the line of the columns
 abbrev pub schema_line : List Column → List ℕ

@@ -1,9 +1,11 @@
 //! The lines of a stream's text: its columns, its rows, and its count of rows or its first fault.
 ghost use Rattle.std.specs.Prelude.{◌≡◌, ◌++◌, ◌∷◌, [], None, Some, OnOk, decimal, map};
-ghost use Rattle.stream_text.specs.Shown.{cause_text, column_text, last_line, schema_line};
+ghost use Rattle.stream_text.specs.Shown.{cause_text, column_text, field_columns, last_line};
+ghost use Rattle.stream_text.specs.Shown.{schema_line};
 ghost use Rattle.word_text.specs.Words.{behind_spaces};
 ghost use Rattle.workload_spec.specs.ReplyText.{row_line};
 
+use arrow_spec::Field;
 use cell_model::{Column, Row};
 use itoa::Buffer;
 use std::alloc::AllocError;
@@ -45,23 +47,24 @@ fn put_column(out: &mut Vec<u8>, column: &Column) -> Result<(), AllocError>
 }
 
 /// The columns, each behind a space.
-fn put_columns(out: &mut Vec<u8>, columns: &[Column]) -> Result<(), AllocError>
+fn put_columns(out: &mut Vec<u8>, fields: &[Field]) -> Result<(), AllocError>
     ensures { OnOk result (out.new.items ≡ out.old.items
-        ++ behind_spaces (map column_text columns.now)) }
+        ++ behind_spaces (map column_text (field_columns fields.now))) }
 {
-    for column in columns {
+    for field in fields {
         out.push(b' ')?;
-        put_column(out, column)?;
+        put_column(out, &field.column)?;
     }
     Ok(())
 }
 
 /// The line of the columns.
-pub fn put_schema(out: &mut Vec<u8>, columns: &[Column]) -> Result<(), AllocError>
-    ensures { OnOk result (out.new.items ≡ out.old.items ++ (schema_line columns.now ++ 10 ∷ [])) }
+pub fn put_schema(out: &mut Vec<u8>, fields: &[Field]) -> Result<(), AllocError>
+    ensures { OnOk result (out.new.items ≡ out.old.items
+        ++ (schema_line (field_columns fields.now) ++ 10 ∷ [])) }
 {
     out.extend_from_slice(b"schema")?;
-    put_columns(out, columns)?;
+    put_columns(out, fields)?;
     out.push(b'\n')?;
     Ok(())
 }

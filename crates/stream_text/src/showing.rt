@@ -1,15 +1,15 @@
 //! What a stream in pieces shows: the lines that each piece decides.
 ghost use Rattle.std.specs.Prelude.{◌≡◌, ◌+◌, ◌<◌, ◌≤◌, ◌^◌, ◌++◌, ◌∷◌, ℕ, List, [], Option, IfOk};
 ghost use Rattle.std.specs.Prelude.{OnOk, length, if◌then◌else◌};
-ghost use Rattle.std.specs.Option.{option_copied};
+ghost use Rattle.std.specs.Option.{option_copied, option_map};
 ghost use Rattle.stream_pieces.specs.Pieces.{opening, schema_of};
-ghost use Rattle.stream_text.specs.Shown.{front_lines};
+ghost use Rattle.stream_text.specs.Shown.{field_columns, front_lines};
 ghost use Rattle.stream_text.specs.Showing.{Ends, ShowsPiece, ShowsSoFar, last_text};
 ghost use Rattle.workload_spec.specs.Words.{lines_text};
 
 use crate::lines::{put_count, put_fault, put_schema};
 use crate::row_lines::RowLines;
-use cell_model::Column;
+use arrow_spec::Field;
 use ipc_read::Reader;
 use std::alloc::{AllocError, Global};
 use std::mem;
@@ -59,8 +59,8 @@ impl Showing {
         let mut lines = RowLines::new(mem::replace(text, Vec::new(alloc)));
         let stand = self.reader.feed_to(piece, &mut lines)?;
         self.rows += lines.count() as u128;
-        let columns = due_columns(&self.reader, began);
-        *text = behind_schema(alloc, columns, lines.into_text())?;
+        let fields = due_fields(&self.reader, began);
+        *text = behind_schema(alloc, fields, lines.into_text())?;
         put_last(text, stand, self.rows)?;
         Ok(stand)
     }
@@ -85,9 +85,10 @@ impl Showing {
     }
 }
 
-/// The columns, where they were not known before.
-fn due_columns(reader: &Reader, began: bool) -> Option<&[Column]>
-    ensures { option_copied result ≡ (if began then None else schema_of reader.now.known) }
+/// The fields, where they were not known before.
+fn due_fields(reader: &Reader, began: bool) -> Option<&[Field]>
+    ensures { option_map field_columns (option_copied result)
+        ≡ (if began then None else schema_of reader.now.known) }
 {
     if began { None } else { reader.schema() }
 }
@@ -95,17 +96,18 @@ fn due_columns(reader: &Reader, began: bool) -> Option<&[Column]>
 /// The lines of rows, behind that of the columns where it is due.
 fn behind_schema(
     alloc: Global,
-    columns: Option<&[Column]>,
+    fields: Option<&[Field]>,
     rows: Vec<u8>,
 ) -> Result<Vec<u8>, AllocError>
     ensures { IfOk result (λ text. text.items
-        ≡ lines_text (front_lines (option_copied columns.entry) []) ++ rows.items) }
+        ≡ lines_text (front_lines (option_map field_columns (option_copied fields.entry)) [])
+        ++ rows.items) }
 {
-    let Some(columns) = columns else {
+    let Some(fields) = fields else {
         return Ok(rows);
     };
     let mut text = Vec::new(alloc);
-    put_schema(&mut text, columns)?;
+    put_schema(&mut text, fields)?;
     text.extend_from_slice(&rows)?;
     Ok(text)
 }

@@ -2,8 +2,9 @@
 ghost use Rattle.std.specs.Prelude.{◌<◌, ◌^◌, length};
 
 use arrow_meta::{batch_message, schema_message};
+use arrow_spec::Field;
 use cell_model::{Bytes, Cell, Column, Kind, Row, Schema, are_named};
-use ipc_read::{Next, first_schema, next_batch};
+use ipc_read::{Known, Next, first_schema, next_message};
 use std::alloc::{AllocError, Global};
 use std::test::Fail;
 
@@ -48,10 +49,11 @@ fn three_keys(alloc: Global) -> Result<Vec<u8>, Fail> {
     Ok(bytes)
 }
 
-fn is_the_key(columns: &[Column]) -> bool {
-    match columns {
-        [column] => {
-            column.name.as_slice() == b"key".as_slice()
+fn is_the_key(fields: &[Field]) -> bool {
+    match fields {
+        [Field { column, encoding }] => {
+            encoding.is_none()
+                && column.name.as_slice() == b"key".as_slice()
                 && column.kind == Kind::I64
                 && !column.nullable
         }
@@ -74,8 +76,9 @@ fn three_keys_are_read_message_by_message(rt: HostRuntime) -> Result<(), Fail> {
         return Err(Fail::from("no schema"));
     };
     assert_eq!(rt; schema.size(), 160);
-    assert!(rt; is_the_key(schema.columns()));
-    let Next::Batch(batch) = next_batch(rt.alloc(), schema.columns(), &bytes[160..])? else {
+    assert!(rt; is_the_key(schema.fields()));
+    let known = Known::of(rt.alloc(), schema)?;
+    let Next::Batch(batch) = next_message(rt.alloc(), &known, &bytes[160..])? else {
         return Err(Fail::from("no batch"));
     };
     assert_eq!(rt; batch.size(), 176);
@@ -83,8 +86,8 @@ fn three_keys_are_read_message_by_message(rt: HostRuntime) -> Result<(), Fail> {
     assert_eq!(rt; batch.len(), 3);
     assert!(rt; is_key(&batch.row(rt.alloc(), 2)?, 3));
     assert_eq!(rt; batch.rows(rt.alloc())?.len(), 3);
-    let last = next_batch(rt.alloc(), schema.columns(), &bytes[336..])?;
+    let last = next_message(rt.alloc(), &known, &bytes[336..])?;
     assert!(rt; matches!(last, Next::End));
-    assert!(rt; is_the_key(schema.into_columns().as_slice()));
+    assert!(rt; is_the_key(known.fields()));
     Ok(())
 }

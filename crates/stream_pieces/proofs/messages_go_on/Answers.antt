@@ -1,6 +1,6 @@
 use Rattle.std.proofs.Common.{refl}
 use Rattle.stream_pieces.proofs.GoesOn.{schema-goes-on, no-schema-goes-on, early-end-goes-on}
-use Rattle.stream_pieces.proofs.Messages.{message-goes-on, message-ends, message-fails}
+use Rattle.stream_pieces.proofs.GoesOn.{message-goes-on, message-ends, message-fails}
 use Rattle.stream_pieces.proofs.messages_go_on.Goals as goal
 
 pub returns : goal.returns

@@ -1,4 +1,4 @@
-use Rattle.std.proofs.Common.{◌≡◌, ◌+◌, ◌++◌, ℕ, List, [], ◌∷◌, length, ap, subst, sym, arith}
+use Rattle.std.proofs.Common.{◌≡◌, ◌+◌, ◌++◌, ℕ, List, length, ap, subst, sym, arith}
 use Rattle.std.specs.Int.{w8, from_bool, to_le_bytes}
 use Rattle.cell_model.specs.declared.column.Column.{Column}
 use Rattle.flat_build.specs.Layout.{overwritten}

@@ -1,4 +1,4 @@
-use Rattle.std.proofs.Common.{◌+◌, ◌++◌, ℕ, List, [], ◌∷◌, length, arith}
+use Rattle.std.proofs.Common.{◌++◌, ℕ, List, [], ◌∷◌, arith}
 use Rattle.cell_model.specs.declared.column.Column.{Column}
 use Rattle.arrow_spec.specs.Fields.{by_dictionary}
 use Rattle.arrow_spec.specs.Flatbuffers.{Field, reference, vector_of_tables}

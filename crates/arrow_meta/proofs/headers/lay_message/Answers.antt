@@ -1,4 +1,4 @@
-use Rattle.std.proofs.Common.{◌≡◌, ◌+◌, ℕ, List, [], ◌∷◌, length, arith}
+use Rattle.std.proofs.Common.{◌≡◌, ◌+◌, ℕ, List, [], ◌∷◌, arith}
 use Rattle.std.specs.Int.{w8, w16, w64, to_le_bytes}
 use Rattle.flat_build.specs.Layout.{overwritten}
 use Rattle.arrow_spec.specs.Flatbuffers.{Field, number, reference}

@@ -1,6 +1,6 @@
 use Rattle.std.proofs.Common.{length, sym, ap, ◌∙◌}
 use Rattle.std.proofs.lemmas.List.FromFn.{length-map-range_with_len}
-use Rattle.stream_spec.specs.Streams.{BatchRead}
+use Rattle.ipc_read.specs.Batches.{BatchRead}
 use Rattle.ipc_read.specs.Batches.{row_in}
 use Rattle.ipc_read.proofs.batch.Batch.len.Goals as goal
 

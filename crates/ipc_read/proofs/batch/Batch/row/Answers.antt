@@ -1,5 +1,5 @@
 use Rattle.std.proofs.Common.{◌<◌, ap, ◌∙◌}
-use Rattle.stream_spec.specs.Streams.{BatchRead}
+use Rattle.ipc_read.specs.Batches.{BatchRead}
 use Rattle.ipc_read.specs.Batches.{have_slot}
 use Rattle.ipc_read.proofs.BatchLemmas.{row_at_slot, slot_in_room, fewer}
 use Rattle.ipc_read.proofs.batch.Batch.row.Goals as goal

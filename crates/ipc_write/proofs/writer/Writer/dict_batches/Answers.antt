@@ -1,12 +1,33 @@
-use Rattle.std.proofs.Common.{◌≡◌, ◌≤◌, ◌+◌, ◌∙◌, ◌++◌, List, ℕ, take, drop, length, length-append, append_assoc, ap, arith, subst}
+use Rattle.std.proofs.Common.{◌≡◌, ◌≤◌, ◌+◌, ◌∙◌, ◌++◌, ◌∷◌, [], sym, List, ℕ, take, drop, length, length-append, append_assoc, ap, arith, subst}
 use Rattle.std.specs.Prelude.{flat_map}
-use Rattle.std.proofs.lemmas.List.{take_all}
+use Rattle.std.proofs.lemmas.List.{flat_map_more, take_all, take_more}
 use Rattle.arrow_spec.specs.DictBatches.{DictBatch}
 use Rattle.arrow_spec.specs.Streams.{end_word, messages_of_dicts}
 use Rattle.ipc_write.specs.Calls.{SinkFailed, WroteAll}
 use Rattle.ipc_write.specs.declared.faults.SinkFault.{SinkFault}
 use Rattle.ipc_write.proofs.PieceLemmas.{failed-behind, pieces-around, run-broken, wrote-both}
 use Rattle.ipc_write.proofs.writer.Writer.dict_batches.Goals as goal
+
+pub loop-dicts-preserved : goal.loop-dicts-preserved
+loop-dicts-preserved g c =
+    let item : DictBatch = c.dicts-item.result in
+    let index : ℕ = c.loop-dicts.dicts-index in
+    let batches : List DictBatch = c.args.batches.now in
+    let front : List DictBatch = take index batches in
+    let more : flat_map messages_of_dicts front ++ messages_of_dicts item ≡ flat_map messages_of_dicts (take (index + 1) batches) =
+    flat_map_more messages_of_dicts [] front item
+    ∙ ap (λ (d : DictBatch). flat_map messages_of_dicts (front ++ d ∷ [])) c.dicts-item.is
+    ∙ ap (flat_map messages_of_dicts) (sym (take_more batches index item c.loop-dicts-test.true)) in
+    record {
+      wrote =
+          subst (λ (bytes : List ℕ). WroteAll g.W.Sink.written g.W.Sink.faults c.args.self.now c.dicts.new.self bytes) more
+          (wrote-both g.W.Sink.written g.W.Sink.faults c.args.self.now c.loop-dicts.self c.dicts.new.self
+          (flat_map messages_of_dicts front) (messages_of_dicts item) c.loop-dicts.invariant.wrote c.in-Ok.ensures.answer);
+      told = c.dicts.ensures.told ∙ c.loop-dicts.invariant.told;
+      started = c.dicts.ensures.started ∙ c.loop-dicts.invariant.started;
+      loan = c.dicts.ensures.loan ∙ c.loop-dicts.invariant.loan;
+      counted = omega (arith, c.dicts.ensures.counted, c.loop-dicts.invariant.counted);
+    }
 
 pub returns-in-Err-clause-answer : goal.returns-in-Err-clause-answer
 returns-in-Err-clause-answer g c =

@@ -14,8 +14,8 @@ returns-in-Ok-clause-answer g c =
     told
     c.in-Ok.ensures.answer
 
-pub returns-in-Err-clause-answer : goal.returns-in-Err-clause-answer
-returns-in-Err-clause-answer g c =
+pub returns-clause-answer : goal.returns-clause-answer
+returns-clause-answer g c =
     let told : flat_map bytes_of c.as_slice.result.now ≡ messages_of_dicts c.args.dicts.now =
     ap (flat_map bytes_of) c.as_slice.ensures.value ∙ c.in_ok-messages.ensures in
     subst

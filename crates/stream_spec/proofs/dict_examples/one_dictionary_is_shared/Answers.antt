@@ -1,0 +1,8 @@
+use Rattle.std.proofs.Common.{refl}
+use lib.Utf8.{encode}
+use Rattle.std.specs.Str.{is_utf8, chars}
+use Rattle.stream_spec.proofs.dict_examples.one_dictionary_is_shared.Goals as goal
+
+pub returns : goal.returns
+unfolding is_utf8 chars encode
+returns c = (refl, refl)
