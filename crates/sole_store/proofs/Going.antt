@@ -1,5 +1,5 @@
 -- A store of one owner goes on as one.
-use Rattle.std.proofs.Common.{◌≡◌, ◌⊎◌, ℕ, Bool, true, false, Option, None, Some, refl, sym, ap, ◌∙◌, subst}
+use Rattle.std.proofs.Common.{◌≡◌, ℕ, Bool, true, false, Option, None, Some, refl, sym, ap, ◌∙◌, subst}
 use mathlib.Core.Logic.{inl, inr}
 use Rattle.core_laws.specs.Frames.Shards.{CoreHolds}
 use Rattle.engine_core.specs.Core.{IsWhole, is_memory, parts_in}
@@ -11,14 +11,10 @@ use Rattle.event_spec.specs.Parts.{Parts, Shape}
 use Rattle.event_spec.specs.Replay.{after, reply_after}
 use Rattle.event_spec.specs.Replies.{CoreReply, reply_to}
 use Rattle.run_spec.specs.Opened.{own_behind}
-use Rattle.sole_store.specs.Sole.{IsSole, made_by}
+use Rattle.sole_store.specs.Sole.{IsOwners, IsSole, Makes, SoleState, made_by, store_of}
 use Rattle.store_laws.proofs.Going.{goes, stays}
 use Rattle.store_laws.proofs.Making.{refused_keeps, unnamed_keeps}
 use Rattle.store_laws.specs.OwnLaws.{HasOpened}
-
--- The event is of the owner's session or of none.
-abbrev pub IsOwners : CoreEvent → Type 0
-IsOwners e = (session_of e ≡ Some 1) ⊎ (session_of e ≡ None)
 
 module _ (sh : Shape) (s : Parts) (e : CoreEvent) (own : Option OwnTransaction) (told : CoreReply) (holds : CoreHolds sh s) (lawful : IsLawful sh e s)
     (opened : HasOpened sh s 1 own) (memory : is_memory told ≡ true → takes_memory e ≡ true)
@@ -28,7 +24,7 @@ module _ (sh : Shape) (s : Parts) (e : CoreEvent) (own : Option OwnTransaction) 
 
     -- An event that was granted leaves open what it tells.
     granted : IsOwners e → told ≡ reply_to sh s e → HasOpened sh (effect sh s e) 1 (own_behind own e told)
-    granted (inl mine) is = subst (λ t. HasOpened sh (effect sh s e) 1 (own_behind own e t)) (sym is) (goes sh s e 1 own holds lawful mine opened)
+    granted (inl mine) is = subst (λ (t : CoreReply). HasOpened sh (effect sh s e) 1 (own_behind own e t)) (sym is) (goes sh s e 1 own holds lawful mine opened)
     granted (inr none') is = subst (HasOpened sh (effect sh s e) 1) (sym (unnamed_keeps own e told none'))
         (stays sh s e 1 own holds lawful (λ mine. some_none 1 (sym none' ∙ mine)) opened)
 
@@ -50,4 +46,18 @@ goes_on sh hand new e own later told sole lawful mine whole parts is memory left
       (subst (λ (s : Parts). HasOpened sh s 1 (own_behind own e told)) (sym parts)
       (opened_by sh (parts_in hand) e own told sole.whole.holds lawful sole.opened memory mine is));
   sessions = sole.sessions;
+}
+
+-- A store by its fields.
+abbrev state : Shape → Parts → Option OwnTransaction → SoleState
+state sh s own = record { shape = sh; parts = s; own = own }
+
+-- and it made the event
+pub makes_it : (sh : Shape) (hand new : Held) (e : CoreEvent) (own later : Option OwnTransaction) (told : CoreReply)
+    → parts_in new ≡ after sh (parts_in hand) (made_by e told) → told ≡ reply_after sh (parts_in hand) (made_by e told) → (is_memory told ≡ true → takes_memory e ≡ true)
+    → later ≡ own_behind own e told → Makes (store_of sh hand own) (store_of sh new later) e told
+makes_it sh hand new e own later told parts is memory left = record {
+  told_is = is;
+  behind_is = ap (λ (s : Parts). state sh s later) parts ∙ ap (λ (o : Option OwnTransaction). state sh (after sh (parts_in hand) (made_by e told)) o) left;
+  memory = memory;
 }

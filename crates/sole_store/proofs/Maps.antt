@@ -9,7 +9,9 @@ use Rattle.isolation_laws.proofs.Rows.{place_cmp-total}
 use Rattle.isolation_spec.specs.Contents.{PlaceMap, at_place, is_place, place_cmp}
 use Rattle.isolation_spec.specs.declared.place.Place.{Place}
 use Rattle.store_laws.proofs.Maps.{itself}
-use Rattle.sole_store.specs.Writing.{with_room}
+use Rattle.event_spec.specs.declared.reply.Reply.TheVariants as reply
+use Rattle.event_spec.specs.Replies.{CoreReply}
+use Rattle.sole_store.specs.Writing.{settled, with_room}
 
 -- a place compares as equal to itself
 same : (p : Place) → place_cmp p p ≡ Equal
@@ -47,10 +49,10 @@ gone (e ∷ m) p one none' = go (place_cmp p e.0) refl none' (gone m p one)
 
 -- a row for which room was made has an entry
 pub has_room : (m : PlaceMap ℕ) (p : Place) (had : Bool) → is_some (at_place m p) ≡ had → at_place (with_room m p had) p ≡ None → ⊥
-has_room m p false is none' = go (sym (at-insert m p 0 p ∙ ap (λ b. cond b (Some 0) (at_place m p)) (itself p)) ∙ none')
+has_room m p false is none' = go 0 (sym (at-insert m p 0 p ∙ ap (λ b. cond b (Some 0) (at_place m p)) (itself p)) ∙ none')
   where
-    go : Some 0 ≡ None → ⊥
-    go h = cc
+    go : (x : ℕ) → Some x ≡ None → ⊥
+    go x h = cc
 has_room m p true is none' = true≢false (sym is ∙ ap (λ (o : Option ℕ). is_some o) none')
 
 -- its slot is laid as if no room had been made
@@ -59,9 +61,34 @@ filled m p false slot = twice m p 0 slot
 filled m p true slot = refl
 
 -- room that was made is taken away again
-pub taken_back : (m : PlaceMap ℕ) (p : Place) → is_some (at_place m p) ≡ false → remove_entry (is_place p) (with_room m p false) ≡ m
-taken_back m p is = gone m p 0 (go (at_place m p) is)
+pub taken_back : (m before now : PlaceMap ℕ) (p : Place) (had : Bool) → is_some (at_place before p) ≡ had → m ≡ with_room before p had
+    → (had ≡ true → now ≡ m) → (had ≡ false → now ≡ remove_entry (is_place p) m) → now ≡ before
+taken_back m before now p true is room some none = some refl ∙ room
+taken_back m before now p false is room some none = none refl ∙ ap (remove_entry (is_place p)) room ∙ gone before p 0 (go (at_place before p) is)
   where
     go : (o : Option ℕ) → is_some o ≡ false → o ≡ None
     go None h = refl
     go (Some x) h = absurd (true≢false h)
+
+-- a reply of which no slot was written settles nothing
+pub settles_else : (writes : PlaceMap ℕ) (place : Place) (told : CoreReply) → ((slot : ℕ) → told ≡ reply.Written slot → ⊥) → settled writes place told ≡ writes
+settles_else writes place (reply.Written slot) other = absurd (other slot refl)
+settles_else writes place (reply.Begun begun) other = refl
+settles_else writes place (reply.Found row) other = refl
+settles_else writes place (reply.Refused fault) other = refl
+settles_else writes place (reply.Rows rows) other = refl
+settles_else writes place (reply.Shared rows) other = refl
+settles_else writes place (reply.Committed number) other = refl
+settles_else writes place (reply.Stale what number) other = refl
+settles_else writes place reply.Aborted other = refl
+settles_else writes place (reply.Oldest oldest) other = refl
+settles_else writes place (reply.Turned turned) other = refl
+settles_else writes place (reply.Dropped count) other = refl
+settles_else writes place (reply.Looked look) other = refl
+settles_else writes place (reply.Moved count) other = refl
+settles_else writes place (reply.Sealed stamp) other = refl
+settles_else writes place (reply.NotSealed because) other = refl
+settles_else writes place (reply.Imaged rows) other = refl
+settles_else writes place reply.NoSeal other = refl
+settles_else writes place reply.Thawed other = refl
+settles_else writes place reply.Memory other = refl

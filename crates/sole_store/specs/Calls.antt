@@ -1,7 +1,6 @@
 -- What the calls of a store of one owner do and answer.
-use Rattle.std.specs.Prelude.{◌≡◌, ℕ, None, Some, Result, Ok, Err}
+use Rattle.std.specs.Prelude.{◌≡◌, ℕ, Bool, true, None, is_some, Result, Ok, Err}
 use Rattle.event_spec.specs.declared.event.Event.TheVariants as event
-use Rattle.event_spec.specs.declared.own.OwnTransaction.{OwnTransaction}
 use Rattle.event_spec.specs.declared.reply.Reply.TheVariants as reply
 use Rattle.event_spec.specs.Effects.{CoreEvent}
 use Rattle.sole_store.specs.Sole.{Makes, SoleState}
@@ -15,7 +14,7 @@ use Rattle.sole_store.specs.declared.faults.WriteRefused.TheVariants as write
 abbrev pub Begins : SoleState → SoleState → Result ℕ BeginFault → Type 0
 Begins old new (Ok number) = (stamp : ℕ)
     × Makes old new (event.Begin 1) (reply.Begun (record { stamp = stamp; number = number }))
-Begins old new (Err begin.Open) = (new ≡ old) × ((own : OwnTransaction) × (old.own ≡ Some own))
+Begins old new (Err begin.Open) = (new ≡ old) × (is_some old.own ≡ true)
 Begins old new (Err begin.Memory) = (new ≡ old) × (old.own ≡ None)
 
 -- A write is accepted on some slot, or refused by what stands in the table. Without memory nothing

@@ -4,20 +4,48 @@ ghost use Rattle.std.specs.Prelude.{if◌then◌else◌};
 ghost use Rattle.block_spec.specs.Bodies.{is_imaged, rows_of};
 ghost use Rattle.event_spec.specs.declared.event.Event.TheVariants as event;
 ghost use Rattle.event_spec.specs.declared.reply.Reply.TheVariants as reply;
+ghost use Rattle.core_laws.specs.Frames.Shards.{CoreHolds};
+ghost use Rattle.core_parts.specs.Hands.{Has};
+ghost use Rattle.engine_core.specs.Asks.{IsOfCore};
 ghost use Rattle.event_spec.specs.Lawful.{HasBlock, IsImageOf};
-ghost use Rattle.event_spec.specs.Parts.{body_at, desk_at};
+ghost use Rattle.event_spec.specs.Parts.{BodyOf, Parts, body_at, desk_at};
+ghost use Rattle.hall_rule.specs.Hands.{Agrees};
 ghost use Rattle.run_spec.specs.Asked.{rows_sealed};
 ghost use Rattle.txn_desk.specs.Oldest.{oldest_of};
 ghost use Rattle.sole_store.specs.Sole.{Makes};
 
-use crate::making::make;
 use crate::store::SoleStore;
 use block_spec::{Phase, SealFault};
-use core_parts::{Gathered, KeyedEvent, SharedRows, body, desk};
+use core_parts::{CorePart, Gathered, KeyedEvent, Shape, SharedRows, body, desk};
 use engine_core::shared;
 use event_spec::{Event, Reply};
 use gather_core::gather_in_turn;
+use hall_rule::Hand;
 use std::alloc::AllocError;
+
+/// The image of a sealed block's rows, in a hand that has every part; none of another block.
+fn image_in(
+    shape: &Shape,
+    hand: &Hand<CorePart>,
+    table: u32,
+    block: u32,
+) -> Result<Option<Gathered>, AllocError>
+    requires core { IsOfCore shape.now hand.now }
+    requires body { Has shape.now hand.now (BodyOf table block) }
+    ensures { IfOk result (λ image. (s : Parts) → CoreHolds shape.now s → Agrees hand.now s →
+        IsImageOf image (body_at shape.now s table block) (body_at shape.now s table block).phase) }
+{
+    let sealed = body(shape, hand, table, block);
+    match sealed.phase() {
+        Phase::Sealed(_) => {
+            let columns = sealed.columns();
+            let rows = sealed.rows();
+            let form = gather_in_turn(shape.alloc(), columns, rows)?;
+            Ok(Some(Gathered::new(shape.alloc(), columns, rows, form)?))
+        }
+        Phase::Loose | Phase::Imaged(_) => Ok(None),
+    }
+}
 
 impl SoleStore {
     /// Counts a round in which a block was not written, and tells whether it turned cooling.
@@ -26,10 +54,17 @@ impl SoleStore {
         ensures { Makes self.old self.new (event.Observe table block) (reply.Turned result) }
     {
         let event = KeyedEvent::new(Event::Observe { table, block });
-        let Reply::Turned(turned) = make(&self.shape, &mut self.hand, event) else {
+        let Reply::Turned(turned) = self.make(event) else {
             unreachable!()
         };
         turned
+    }
+
+    /// The least stamp at which an open transaction began, or the newest where none is open.
+    fn oldest(&self) -> u64
+        ensures { result ≡ oldest_of (desk_at self.now.shape self.now.parts) }
+    {
+        desk(&self.shape, &self.hand).oldest()
     }
 
     /// Drops the versions of a block that no transaction needs, and tells how many.
@@ -39,13 +74,13 @@ impl SoleStore {
             (event.Prune table block (oldest_of (desk_at self.old.shape self.old.parts)))
             (reply.Dropped result) }
     {
-        let oldest = desk(&self.shape, &self.hand).oldest();
+        let oldest = self.oldest();
         let event = KeyedEvent::new(Event::Prune {
             table,
             block,
             oldest,
         });
-        let Reply::Dropped(count) = make(&self.shape, &mut self.hand, event) else {
+        let Reply::Dropped(count) = self.make(event) else {
             unreachable!()
         };
         count.get()
@@ -64,7 +99,7 @@ impl SoleStore {
             Makes self.old self.new (event.Seal table block) (reply.NotSealed fault)) }
     {
         let event = KeyedEvent::new(Event::Seal { table, block });
-        match make(&self.shape, &mut self.hand, event) {
+        match self.make(event) {
             Reply::Sealed(stamp) => Ok(stamp),
             Reply::NotSealed(fault) => Err(fault),
             _ => unreachable!(),
@@ -74,22 +109,11 @@ impl SoleStore {
     /// The image of a sealed block's rows; none of another block.
     fn image_of(&self, table: u32, block: u32) -> Result<Option<Gathered>, AllocError>
         requires { HasBlock self.now.shape table block }
-        ensures image { IfOk result (λ image. image
-            ≡ rows_sealed (body_at self.now.shape self.now.parts table block)) }
-        ensures lawful { IfOk result (λ image. IsImageOf image
+        ensures { IfOk result (λ image. IsImageOf image
             (body_at self.now.shape self.now.parts table block)
             (body_at self.now.shape self.now.parts table block).phase) }
     {
-        let sealed = body(&self.shape, &self.hand, table, block);
-        match sealed.phase() {
-            Phase::Sealed(_) => {
-                let columns = sealed.columns();
-                let rows = sealed.rows();
-                let form = gather_in_turn(self.shape.alloc(), columns, rows)?;
-                Ok(Some(Gathered::new(self.shape.alloc(), columns, rows, form)?))
-            }
-            Phase::Loose | Phase::Imaged(_) => Ok(None),
-        }
+        image_in(&self.shape, &self.hand, table, block)
     }
 
     /// Makes the Arrow image of a sealed block, lays it into the block, and tells how many rows it
@@ -116,7 +140,7 @@ impl SoleStore {
             block,
             image,
         });
-        match make(&self.shape, &mut self.hand, event) {
+        match self.make(event) {
             Reply::Imaged(rows) => Ok(Some(rows)),
             Reply::NoSeal => Ok(None),
             Reply::Memory => Err(AllocError),
@@ -138,7 +162,7 @@ impl SoleStore {
         ensures none { OnErr result (self.new ≡ self.old) }
     {
         let event = KeyedEvent::new(Event::Thaw { table, block });
-        match make(&self.shape, &mut self.hand, event) {
+        match self.make(event) {
             Reply::Thawed => Ok(()),
             Reply::Memory => Err(AllocError),
             _ => unreachable!(),

@@ -1,14 +1,16 @@
 //! The owner's open transaction.
-ghost use Rattle.std.specs.Prelude.{◌≡◌, ℕ, [], None, IfOk, OnErr, OnOk, is_some};
+ghost use Rattle.std.specs.Prelude.{◌≡◌, ◌≢◌, ℕ, [], None, IfOk, OnErr, OnOk, is_some};
+ghost use Rattle.std.specs.Prelude.{false, true};
 ghost use Rattle.std.specs.Arc.{arc_value};
 ghost use Rattle.std.specs.BTreeMap.{insert_entry};
+ghost use Rattle.std.specs.Map.{remove_entry};
 ghost use Rattle.engine_core.specs.Core.{IsWhole, is_memory, parts_in};
-ghost use Rattle.event_spec.specs.Lawful.{IsLawful};
+ghost use Rattle.event_spec.specs.Lawful.{IsLawful, takes_memory};
 ghost use Rattle.event_spec.specs.Replay.{after, reply_after};
-ghost use Rattle.isolation_spec.specs.Contents.{PlaceMap, at_place, place_cmp};
-ghost use Rattle.run_spec.specs.Opened.{own_key, with_own};
+ghost use Rattle.isolation_spec.specs.Contents.{PlaceMap, at_place, is_place, place_cmp};
+ghost use Rattle.run_spec.specs.Opened.{own_key};
 ghost use Rattle.sole_store.specs.Sole.{made_by};
-ghost use Rattle.sole_store.specs.Writing.{with_room};
+ghost use Rattle.sole_store.specs.Writing.{HasRoom, settled, with_room};
 
 use crate::making::make;
 use block_layout::SlotId;
@@ -70,6 +72,27 @@ fn lay(by_row: &mut Written, place: Place, slot: SlotId) -> Result<(), AllocErro
     }
 }
 
+/// Lays the slot of a row that has an entry.
+fn lay_over(by_row: &mut Written, place: Place, slot: SlotId)
+    requires { at_place by_row.old.entries place ≢ None }
+    ensures { by_row.new.entries ≡ insert_entry place_cmp by_row.old.entries place slot }
+{
+    let Ok(()) = lay(by_row, place, slot) else {
+        unreachable!()
+    };
+}
+
+/// Takes away the entry of a row that had none.
+fn take_back(by_row: &mut Written, place: Place, had: bool)
+    ensures some { had ≡ true → by_row.new.entries ≡ by_row.old.entries }
+    ensures none { had ≡ false
+        → by_row.new.entries ≡ remove_entry (is_place place) by_row.old.entries }
+{
+    if !had {
+        by_row.remove(&place);
+    }
+}
+
 /// Makes room for a row before its write, if it has no entry.
 fn make_room(by_row: &mut Written, place: Place, had: bool) -> Result<(), AllocError>
     ensures made { OnOk result (by_row.new.entries ≡ with_room by_row.old.entries place had) }
@@ -81,26 +104,16 @@ fn make_room(by_row: &mut Written, place: Place, had: bool) -> Result<(), AllocE
     lay(by_row, place, SlotId::join(0, 0))
 }
 
-/// Lays the slot of a row behind its write, for which there is room.
-fn fill(by_row: &mut Written, place: Place, had: bool, slot: SlotId)
-    requires { (before : PlaceMap ℕ) × (is_some (at_place before place) ≡ had)
-        × (by_row.old.entries ≡ with_room before place had) }
-    ensures { (before : PlaceMap ℕ) → by_row.old.entries ≡ with_room before place had
-        → by_row.new.entries ≡ insert_entry place_cmp before place slot }
-{
-    let Ok(()) = lay(by_row, place, slot) else {
-        unreachable!()
-    };
-}
-
-/// Takes the room away again that was made for a row.
-fn take_back(by_row: &mut Written, place: Place, had: bool)
+/// Settles a row's entry behind its write, by what that was told.
+fn settle(by_row: &mut Written, place: Place, had: bool, told: &CoreReply)
+    requires { HasRoom by_row.old.entries place had }
     ensures { (before : PlaceMap ℕ) → is_some (at_place before place) ≡ had
         → by_row.old.entries ≡ with_room before place had
-        → by_row.new.entries ≡ before }
+        → by_row.new.entries ≡ settled before place told.now }
 {
-    if !had {
-        by_row.remove(&place);
+    match told {
+        Reply::Written(slot) => lay_over(by_row, place, *slot),
+        _ => take_back(by_row, place, had),
     }
 }
 
@@ -157,17 +170,17 @@ impl Opened {
             ≡ after shape.now (parts_in hand.old) (made_by event told)) }
         ensures told { IfOk result (λ told. told
             ≡ reply_after shape.now (parts_in hand.old) (made_by event told)) }
-        ensures writes { IfOk result (λ told. self.new ≡ with_own place told self.old) }
+        ensures memory { IfOk result (λ told. is_memory told ≡ true
+            → takes_memory event ≡ true) }
+        ensures writes { IfOk result (λ told. self.new
+            ≡ record self.old { writes = settled self.old.writes place told }) }
         ensures none { OnErr result (hand.new ≡ hand.old) }
         ensures kept { OnErr result (self.new ≡ self.old) }
     {
         let by_row = Arc::make_mut(&mut self.by_row)?;
         make_room(by_row, place, had)?;
         let told = make(shape, hand, event);
-        match told {
-            Reply::Written(slot) => fill(by_row, place, had, slot),
-            _ => take_back(by_row, place, had),
-        }
+        settle(by_row, place, had, &told);
         Ok(told)
     }
 }

@@ -3,11 +3,13 @@ ghost use Rattle.std.specs.Prelude.{◌≡◌, ◌<◌, ◌↔◌, [], None, IfO
 ghost use Rattle.engine_core.specs.Core.{MayOpen};
 ghost use Rattle.event_spec.specs.Lawful.{HasBlock, HasTable};
 ghost use Rattle.event_spec.specs.Replay.{columns_in, opening};
+ghost use Rattle.sole_store.specs.Sole.{Makes, MayMake};
 
+use crate::making::make;
 use crate::opened::Opened;
 use cell_model::{Schema, TableDecl};
-use core_parts::{CorePart, Shape};
-use engine_core::Core;
+use core_parts::{CorePart, KeyedEvent, Shape};
+use engine_core::{Core, CoreReply};
 use hall_rule::{Hand, Parts};
 use std::alloc::{AllocError, Global};
 use std::marker::Model;
@@ -24,18 +26,13 @@ impl Model for SoleStore {
     ghost use Rattle.std.specs.Coded.{coded_list, coded_ℕ, coded_ℤ, codes};
     ghost use Rattle.std.specs.FinMap as map;
     ghost use Rattle.std.specs.Ordering.{int_cmp};
-    ghost use Rattle.engine_core.specs.Core.{parts_in};
-    ghost use Rattle.sole_store.specs.Sole.{IsSole, SoleState};
+    ghost use Rattle.sole_store.specs.Sole.{IsSole, SoleState, store_of};
 
     ghost Value = { SoleState };
 
     ghost coded = { Prim.hlevel (codes, map.code {R = int_cmp} coded_ℤ (coded_list coded_ℕ)) };
 
-    ghost view = { λ store. record {
-      shape = store.shape;
-      parts = parts_in store.hand;
-      own = store.opened;
-    } };
+    ghost view = { λ store. store_of store.shape store.hand store.opened };
 
     ghost invariant = { λ store. IsSole store.shape store.hand store.opened };
 }
@@ -56,6 +53,14 @@ impl SoleStore {
             hand,
             opened: None,
         })
+    }
+
+    /// Makes an event that leaves what is open as it is.
+    pub(crate) fn make(&mut self, event: KeyedEvent) -> CoreReply
+        requires { MayMake self.old event }
+        ensures { Makes self.old self.new event result }
+    {
+        make(&self.shape, &mut self.hand, event)
     }
 
     /// Where the store takes memory.

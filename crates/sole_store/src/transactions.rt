@@ -58,12 +58,9 @@ impl SoleStore {
             (event.Get (own_key table key own) table key) (reply.Found row)) }
         ensures none { OnErr result (self.new ≡ self.old) }
     {
-        let Some(opened) = &self.opened else {
-            unreachable!()
-        };
-        let own = opened.own_key(Place { table, key });
+        let own = self.own_key(Place { table, key });
         let event = KeyedEvent::new(Event::Get { own, table, key });
-        match make(&self.shape, &mut self.hand, event) {
+        match self.make(event) {
             Reply::Found(row) => Ok(row),
             Reply::Memory => Err(AllocError),
             _ => unreachable!(),

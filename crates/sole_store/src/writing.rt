@@ -1,13 +1,14 @@
 //! Writing rows.
-ghost use Rattle.std.specs.Prelude.{◌≡◌, None, Some, is_some, option_map, true};
+ghost use Rattle.std.specs.Prelude.{◌≡◌, None, Some, IfOk, OnErr, is_some, option_map, true};
 ghost use Rattle.block_body.specs.Keys.{HasKey};
 ghost use Rattle.engine_core.specs.Asks.{imaged_block};
 ghost use Rattle.event_spec.specs.declared.event.Event.TheVariants as event;
 ghost use Rattle.event_spec.specs.declared.own.OwnTransaction.{OwnTransaction as OwnView};
-ghost use Rattle.event_spec.specs.Lawful.{FitsTable, HasTable, IsThawed};
+ghost use Rattle.event_spec.specs.Lawful.{FitsTable, HasTable, IsThawed, OwnsKey};
 ghost use Rattle.isolation_spec.specs.Contents.{at_place, key_of, place_of};
 ghost use Rattle.run_spec.specs.Opened.{own_key};
 ghost use Rattle.sole_store.specs.Calls.{Writes};
+ghost use Rattle.sole_store.specs.Sole.{Makes};
 ghost use Rattle.sole_store.specs.Writing.{IsWriteOf};
 
 use crate::faults::WriteRefused;
@@ -15,7 +16,7 @@ use crate::store::SoleStore;
 use block_body::key_of;
 use cell_model::Row;
 use core_parts::KeyedEvent;
-use engine_core::imaged;
+use engine_core::{CoreReply, imaged};
 use event_spec::{Event, OwnKey, Reply};
 use isolation_spec::Place;
 use std::alloc::AllocError;
@@ -37,9 +38,11 @@ impl SoleStore {
     }
 
     /// What an event on the row of a place is handed of the open transaction.
-    fn own_key(&self, place: Place) -> OwnKey
+    pub(crate) fn own_key(&self, place: Place) -> OwnKey
         requires { is_some self.now.own ≡ true }
-        ensures { option_map (own_key place.table place.key) self.now.own ≡ Some result }
+        ensures key { option_map (own_key place.table place.key) self.now.own ≡ Some result }
+        ensures mine { result.session ≡ 1 }
+        ensures owns { OwnsKey self.now.shape result place.table place.key self.now.parts }
     {
         let Some(opened) = &self.opened else {
             unreachable!()
@@ -47,7 +50,28 @@ impl SoleStore {
         opened.own_key(place)
     }
 
-    /// Makes the event of a write of a place, which the transaction wrote already or not.
+    /// Makes the event of a write of a place, which the transaction wrote already or not. Without
+    /// memory for the row's entry no event is made.
+    fn make_write(
+        &mut self,
+        place: Place,
+        had: bool,
+        event: KeyedEvent,
+    ) -> Result<CoreReply, AllocError>
+        requires busy { is_some self.old.own ≡ true }
+        requires write { IsWriteOf self.old place event }
+        requires had { option_map (λ own. is_some (at_place own.writes place)) self.old.own
+            ≡ Some had }
+        ensures made { IfOk result (λ told. Makes self.old self.new event told) }
+        ensures none { OnErr result (self.new ≡ self.old) }
+    {
+        let Some(opened) = &mut self.opened else {
+            unreachable!()
+        };
+        opened.write(&self.shape, &mut self.hand, place, had, event)
+    }
+
+    /// Writes a place by an event, and tells how the write ended.
     fn write(&mut self, place: Place, had: bool, event: KeyedEvent) -> Result<(), WriteRefused>
         requires busy { is_some self.old.own ≡ true }
         requires write { IsWriteOf self.old place event }
@@ -55,10 +79,7 @@ impl SoleStore {
             ≡ Some had }
         ensures { Writes self.old self.new event result }
     {
-        let Some(opened) = &mut self.opened else {
-            unreachable!()
-        };
-        match opened.write(&self.shape, &mut self.hand, place, had, event) {
+        match self.make_write(place, had, event) {
             Ok(Reply::Written(_)) => Ok(()),
             Ok(Reply::Refused(fault)) => Err(WriteRefused::Fault(fault)),
             Ok(Reply::Memory) | Err(AllocError) => Err(WriteRefused::Memory),
