@@ -1,5 +1,5 @@
 -- The parts that a store reads where they lie.
-use Rattle.std.proofs.Common.{◌≡◌, ℕ, cond, IfOk, Result, Ok, Err, List, Option, None, Some, refl, sym, ap, ◌∙◌, subst}
+use Rattle.std.proofs.Common.{◌≡◌, ℕ, cond, IfOk, Result, Ok, Err, List, Option, None, Some, sym, ap, ◌∙◌}
 use Rattle.block_spec.specs.Bodies.{Body, is_imaged, is_sealed, rows_of}
 use Rattle.block_spec.specs.Slots.{Row}
 use Rattle.block_spec.specs.declared.phase.Phase.{Phase}

@@ -6,7 +6,7 @@ use Rattle.engine_core.specs.Core.{IsWhole, is_memory, parts_in}
 use Rattle.core_parts.specs.Hands.{Held}
 use Rattle.event_spec.specs.declared.own.OwnTransaction.{OwnTransaction}
 use Rattle.event_spec.specs.Effects.{CoreEvent, effect}
-use Rattle.event_spec.specs.Lawful.{IsLawful, session_of, takes_memory}
+use Rattle.event_spec.specs.Lawful.{IsLawful, takes_memory}
 use Rattle.event_spec.specs.Parts.{Parts, Shape}
 use Rattle.event_spec.specs.Replay.{after, reply_after}
 use Rattle.event_spec.specs.Replies.{CoreReply, reply_to}

@@ -15,7 +15,7 @@ use Rattle.event_spec.specs.Effects.{CoreEvent}
 use Rattle.event_spec.specs.declared.event.Event.TheVariants as event
 use Rattle.event_spec.specs.Lawful.{HasBlock, HasTable, IsImageOf, OwnsAll, OwnsKey, takes_memory}
 use Rattle.event_spec.specs.Parts.{Parts, Shape, body_at, desk_at}
-use Rattle.event_spec.specs.Replay.{after, reply_after}
+use Rattle.event_spec.specs.Replay.{reply_after}
 use Rattle.event_spec.specs.Replies.{CoreReply, reply_to, reply_to_image, reply_to_seal}
 use Rattle.run_spec.specs.Opened.{own_behind, own_key}
 use Rattle.sole_store.specs.Sole.{IsSole, Makes, MayMake, SoleState, made_by}

@@ -1,20 +1,17 @@
 -- What an event makes of a hand that has every part.
-use Rattle.std.proofs.Common.{◌≡◌, ℕ, zero, suc, ◌<◌, Bool, true, false, MatchBool, List, [], ◌∷◌, Option, None, Some, length, refl, sym, ap, ◌∙◌, subst, arith}
-use Rattle.std.specs.Prelude.{slice_get}
+use Rattle.std.proofs.Common.{◌≡◌, ℕ, suc, ◌<◌, Bool, true, false, MatchBool, [], ◌∷◌, Option, Some, length, refl, sym, ap, ◌∙◌, subst, arith}
 use Rattle.core_laws.proofs.Frames.Reached.{core_kept}
 use Rattle.core_laws.specs.Frames.Shards.{CoreHolds}
 use Rattle.core_parts.specs.Hands.{Held}
-use Rattle.engine_core.proofs.Wholes.{agrees, holds_each, in_all}
+use Rattle.engine_core.proofs.Wholes.{holds_each, in_all}
 use Rattle.engine_core.specs.Core.{IsWhole, is_memory, parts_in}
 use Rattle.event_spec.specs.Effects.{CoreEvent, effect}
-use Rattle.event_spec.specs.Lawful.{FitsIn, IsLawful, Stands}
+use Rattle.event_spec.specs.Lawful.{IsLawful}
 use Rattle.event_spec.specs.Parts.{CorePart, Parts, Shape}
 use Rattle.event_spec.specs.Replay.{after, reply_after}
 use Rattle.event_spec.specs.Replies.{CoreReply, reply_to}
 use Rattle.event_spec.specs.declared.reply.Reply.TheVariants as reply
-use Rattle.event_spec.specs.Touched.{touching}
-use Rattle.hall_rule.specs.Hands.{Agrees, Covers, Holds, SameRoom, all_in}
-use Rattle.sole_store.specs.Sole.{made_by}
+use Rattle.hall_rule.specs.Hands.{Agrees, Holds, SameRoom, all_in}
 
 -- A hand that agrees with a state and holds each place has all of it.
 all_of : (hand : Held) (s : Parts) → Agrees hand s → ((k : ℕ) → k < length hand → Holds hand k) → hand ≡ all_in s

@@ -1,6 +1,6 @@
 -- A write of a row by the owner.
-use Rattle.std.proofs.Common.{◌≡◌, ◌⊎◌, ℕ, ℤ, Bool, true, false, Result, Ok, Err, IfOk, Option, None, Some, option_map, is_some, refl, sym, ap, ◌∙◌, subst}
-use mathlib.Core.Logic.{inl, inr}
+use Rattle.std.proofs.Common.{◌≡◌, ℕ, ℤ, Bool, true, Result, Ok, Err, IfOk, Option, None, Some, option_map, is_some, refl, sym, ap, ◌∙◌, subst}
+use mathlib.Core.Logic.{inl}
 use Rattle.std.specs.Prelude.{OnErr}
 use Rattle.block_spec.specs.Slots.{Row}
 use Rattle.core_parts.specs.Hands.{Held}
@@ -12,13 +12,12 @@ use Rattle.event_spec.specs.declared.reply.Reply.TheVariants as reply
 use Rattle.event_spec.specs.declared.reply.WriteFault.{WriteFault}
 use Rattle.event_spec.specs.Effects.{CoreEvent, change_judged, insert_judged}
 use Rattle.event_spec.specs.Lawful.{FitsTable, HasTable, IsThawed, OwnsKey, takes_memory}
-use Rattle.event_spec.specs.Parts.{Parts, Shape}
+use Rattle.event_spec.specs.Parts.{Shape}
 use Rattle.event_spec.specs.Replay.{after, reply_after}
-use Rattle.event_spec.specs.Replies.{CoreReply, reply_to, reply_to_write}
+use Rattle.event_spec.specs.Replies.{CoreReply, reply_to_write}
 use Rattle.isolation_spec.specs.Contents.{PlaceMap, at_place, key_of, place_at, place_of}
 use Rattle.isolation_spec.specs.declared.place.Place.{Place}
 use Rattle.run_spec.specs.Opened.{own_behind, own_key, with_own}
-use Rattle.std.specs.declared.alloc.AllocError.{AllocError}
 use Rattle.sole_store.specs.Sole.{IsSole, Makes, SoleState, made_by, store_of}
 use Rattle.sole_store.specs.Writing.{IsWriteOf, settled}
 use Rattle.sole_store.proofs.Going.{goes_on, makes_it}

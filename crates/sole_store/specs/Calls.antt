@@ -1,5 +1,5 @@
 -- What the calls of a store of one owner do and answer.
-use Rattle.std.specs.Prelude.{◌≡◌, ℕ, Bool, true, None, is_some, Result, Ok, Err}
+use Rattle.std.specs.Prelude.{◌≡◌, ℕ, true, None, is_some, Result, Ok, Err}
 use Rattle.event_spec.specs.declared.event.Event.TheVariants as event
 use Rattle.event_spec.specs.declared.reply.Reply.TheVariants as reply
 use Rattle.event_spec.specs.Effects.{CoreEvent}

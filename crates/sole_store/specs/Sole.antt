@@ -1,5 +1,5 @@
 -- A store of one owner, and what an event makes of it.
-use Rattle.std.specs.Prelude.{◌≡◌, ◌⊎◌, ℕ, Bool, true, Option, None, Some}
+use Rattle.std.specs.Prelude.{◌≡◌, ◌⊎◌, true, Option, None, Some}
 use Rattle.core_parts.specs.Hands.{Held}
 use Rattle.engine_core.specs.Core.{IsWhole, is_memory, parts_in}
 use Rattle.event_spec.specs.declared.own.OwnTransaction.{OwnTransaction}

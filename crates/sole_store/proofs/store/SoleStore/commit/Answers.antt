@@ -1,6 +1,5 @@
 use Rattle.std.proofs.Common.{◌≡◌, Option, Some, None, rules, refl, sym, ap, ◌∙◌, subst}
 use mathlib.Core.Logic.{inl}
-use Rattle.engine_core.specs.Core.{parts_in}
 use Rattle.event_spec.specs.declared.event.Event.TheVariants as event
 use Rattle.event_spec.specs.declared.own.OwnTransaction.{OwnTransaction}
 use Rattle.event_spec.specs.declared.reply.Reply.TheVariants as reply

@@ -1,4 +1,4 @@
-use Rattle.std.proofs.Common.{◌≡◌, ℤ, Some, option_map, rules, to_z, of_z, w64, refl, sym, ap, ◌∙◌, subst}
+use Rattle.std.proofs.Common.{◌≡◌, ℤ, rules, to_z, of_z, w64, sym, ap, ◌∙◌, subst}
 use Rattle.std.proofs.Math.Facts.{to_z-of_z}
 use Rattle.event_spec.specs.declared.event.Event.TheVariants as event
 use Rattle.event_spec.specs.declared.own.OwnKey.{OwnKey}

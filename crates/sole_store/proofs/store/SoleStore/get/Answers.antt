@@ -1,11 +1,11 @@
-use Rattle.std.proofs.Common.{◌≡◌, ℤ, Some, rules, to_z, of_z, w64, refl, sym, ap, ◌∙◌, subst}
+use Rattle.std.proofs.Common.{◌≡◌, ℤ, rules, to_z, of_z, w64, refl, sym, ap, ◌∙◌, subst}
 use Rattle.std.proofs.Math.Facts.{to_z-of_z}
 use Rattle.event_spec.specs.declared.event.Event.TheVariants as event
 use Rattle.event_spec.specs.declared.own.OwnKey.{OwnKey}
 use Rattle.event_spec.specs.declared.reply.Reply.TheVariants as reply
 use Rattle.event_spec.specs.Effects.{CoreEvent}
 use Rattle.run_spec.specs.Opened.{own_key}
-use Rattle.sole_store.specs.Sole.{Makes, MayMake}
+use Rattle.sole_store.specs.Sole.{MayMake}
 use Rattle.sole_store.proofs.Told.{granted, handed, may_get, refused, told_as}
 use Rattle.sole_store.proofs.store.SoleStore.get.Goals as goal
 

@@ -1,7 +1,5 @@
-use Rattle.std.proofs.Common.{◌≡◌, IfOk, Result, Ok, Err, List, Option, Some, None, cond, sym, subst}
+use Rattle.std.proofs.Common.{◌≡◌, IfOk, Some, None, cond, sym, subst}
 use Rattle.block_spec.specs.Bodies.{is_imaged, rows_of}
-use Rattle.block_spec.specs.Slots.{Row}
-use Rattle.core_laws.specs.Frames.Shards.{CoreHolds}
 use Rattle.engine_core.proofs.Wholes.{has_its_body}
 use Rattle.event_spec.specs.Lawful.{HasBlock}
 use Rattle.event_spec.specs.Parts.{body_at}

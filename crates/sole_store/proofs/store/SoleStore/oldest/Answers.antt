@@ -1,4 +1,4 @@
-use Rattle.std.proofs.Common.{ℕ, sym, ap, ◌∙◌}
+use Rattle.std.proofs.Common.{sym, ap, ◌∙◌}
 use Rattle.event_spec.specs.Parts.{desk_at}
 use Rattle.sole_store.specs.Sole.{SoleState}
 use Rattle.sole_store.proofs.Blocks.{desk_there, has_desk}

@@ -1,6 +1,6 @@
 use Rattle.std.proofs.Common.{ap}
 use Rattle.event_spec.specs.Parts.{Shape}
-use Rattle.sole_store.proofs.Ending.{parts_first, sole_first}
+use Rattle.sole_store.proofs.Ending.{sole_first}
 use Rattle.sole_store.proofs.store.SoleStore.open.Goals as goal
 
 pub invariant_of-result : goal.invariant_of-result

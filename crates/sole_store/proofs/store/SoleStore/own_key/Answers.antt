@@ -1,10 +1,10 @@
-use Rattle.std.proofs.Common.{◌≡◌, Some, option_map, refl, sym, ap, ◌∙◌, subst}
+use Rattle.std.proofs.Common.{Some, option_map, sym, ap, ◌∙◌, subst}
 use Rattle.engine_core.specs.Core.{parts_in}
 use Rattle.event_spec.specs.declared.own.OwnKey.{OwnKey}
 use Rattle.event_spec.specs.Lawful.{OwnsKey}
 use Rattle.run_spec.specs.Opened.{own_key}
 use Rattle.sole_store.specs.Sole.{SoleState}
-use Rattle.sole_store.proofs.Told.{not_open, owns_all, owns_key}
+use Rattle.sole_store.proofs.Told.{owns_all, owns_key}
 use Rattle.sole_store.proofs.store.SoleStore.own_key.Goals as goal
 
 pub returns-clause-key : goal.returns-clause-key

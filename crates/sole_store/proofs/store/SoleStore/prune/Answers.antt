@@ -1,6 +1,5 @@
-use Rattle.std.proofs.Common.{ℕ, refl, sym, ap, ◌∙◌, subst}
+use Rattle.std.proofs.Common.{refl, sym, subst}
 use Rattle.event_spec.specs.declared.event.Event.TheVariants as event
-use Rattle.event_spec.specs.declared.reply.Reply.TheVariants as reply
 use Rattle.event_spec.specs.Effects.{CoreEvent}
 use Rattle.sole_store.specs.Sole.{MayMake}
 use Rattle.sole_store.proofs.Told.{always, may_prune, told_as}

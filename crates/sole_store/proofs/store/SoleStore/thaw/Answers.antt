@@ -1,9 +1,8 @@
 use Rattle.std.proofs.Common.{refl, sym, subst}
 use Rattle.event_spec.specs.declared.event.Event.TheVariants as event
-use Rattle.event_spec.specs.declared.reply.Reply.TheVariants as reply
 use Rattle.event_spec.specs.Effects.{CoreEvent}
 use Rattle.sole_store.specs.Sole.{MayMake}
-use Rattle.sole_store.proofs.Told.{granted, may_thaw, refused, told_as}
+use Rattle.sole_store.proofs.Told.{granted, may_thaw, told_as}
 use Rattle.sole_store.proofs.store.SoleStore.thaw.Goals as goal
 
 pub make-requires : goal.make-requires
