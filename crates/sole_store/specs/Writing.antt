@@ -35,4 +35,22 @@ pub record HasRoom (writes : PlaceMap ℕ) (place : Place) (had : Bool) : Type 0
 -- Behind the write a row that was accepted lies on the slot that was told; else nothing changed.
 abbrev pub settled : PlaceMap ℕ → Place → CoreReply → PlaceMap ℕ
 settled writes place (reply.Written slot) = insert_entry place_cmp writes place slot
-settled writes place _ = writes
+settled writes place (reply.Begun snapshot) = writes
+settled writes place (reply.Found row) = writes
+settled writes place (reply.Refused fault) = writes
+settled writes place (reply.Rows rows) = writes
+settled writes place (reply.Shared rows) = writes
+settled writes place (reply.Committed number) = writes
+settled writes place (reply.Stale what number) = writes
+settled writes place reply.Aborted = writes
+settled writes place (reply.Oldest stamp) = writes
+settled writes place (reply.Turned turned) = writes
+settled writes place (reply.Dropped count) = writes
+settled writes place (reply.Looked look) = writes
+settled writes place (reply.Moved count) = writes
+settled writes place (reply.Sealed stamp) = writes
+settled writes place (reply.NotSealed fault) = writes
+settled writes place (reply.Imaged rows) = writes
+settled writes place reply.NoSeal = writes
+settled writes place reply.Thawed = writes
+settled writes place reply.Memory = writes
