@@ -1,0 +1,7 @@
+mod Maps
+mod Whole
+mod Going
+mod Told
+mod Ending
+mod Writes
+mod Blocks

@@ -1,0 +1,4 @@
+pub mod Calls
+pub mod Examples
+pub mod Sole
+pub mod Writing
