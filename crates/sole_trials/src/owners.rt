@@ -1,6 +1,7 @@
 //! The life of a store, from its first row to a write beside a lend.
 ghost use Rattle.std.specs.Prelude.{◌≡◌, IfOk, true, is_some, length};
 ghost use Rattle.event_spec.specs.Lawful.{FitsTable, HasTable};
+ghost use Rattle.isolation_spec.specs.Contents.{key_of};
 
 use cell_model::{Bytes, Cell, Column, Kind, Row, Schema, TableDecl, are_named};
 use sole_store::SoleStore;
@@ -40,6 +41,7 @@ fn open(alloc: Global) -> Result<SoleStore, Fail> {
 fn row_of(store: &SoleStore, key: i64, count: i64) -> Result<Row, Fail>
     ensures table { IfOk result (λ row. HasTable store.now.shape 0) }
     ensures fits { IfOk result (λ row. FitsTable store.now.shape 0 row) }
+    ensures key { IfOk result (λ row. key_of row ≡ key) }
 {
     let alloc = store.alloc();
     let cells = vec![in alloc; Cell::Num(i128::from(key)), Cell::Num(i128::from(count))]?;
@@ -86,7 +88,7 @@ fn thaw(store: &mut SoleStore, block: u32) -> Result<(), Fail> {
 /// Changes a row whose block is not frozen.
 fn change(store: &mut SoleStore, key: i64, count: i64) -> Result<(), Fail> {
     let row = row_of(store, key, count)?;
-    if !store.is_busy() || store.imaged(0, block_body::key_of(&row)).is_some() {
+    if !store.is_busy() || store.imaged(0, key).is_some() {
         return Err(Fail::from("the row is not to be changed"));
     }
     Ok(store.update(0, row)?)
